@@ -1,0 +1,1 @@
+// The evaluation of one message by calls: start, next step, answer, result, field.

@@ -1,0 +1,6 @@
+-- Laws of the definitions in specs/.
+pub mod ListLaws
+pub mod TextLaws
+pub mod LentLaws
+pub mod DecimalLaws
+pub mod Computing

@@ -1,0 +1,3 @@
+-- Proofs of the claims about sheets.
+pub mod Marked
+pub mod Computing

@@ -1,0 +1,1 @@
+// The sheet: one message with its DNS answers, and what its evaluation prints.
