@@ -4,10 +4,11 @@ ghost use Prim.Native.Nat.{min};
 ghost use mathlib.Core.List.{[]};
 ghost use lib.ListN.{length, drop, getD};
 ghost use Rattle.octets.specs.Lent.{Writes};
-ghost use Rattle.domain.specs.Domain.{domain-octet, good-label, label-count, last-labels, targets, can-ask, asked-name};
+ghost use Rattle.domain.specs.Domain.{good-label, is-domain, label-count, last-labels, targets, can-ask, asked-name};
 ghost use Rattle.domain.specs.Places.{checked, begin-of, index};
 use octets::Refusal;
 use octets::Written;
+use text::Class;
 
 // A number of labels, counted from the right.
 pub struct Labels(pub usize);
@@ -21,51 +22,18 @@ pub enum Checked {
     Bad(Octet),
 }
 
-// Letters, digits, - and _.
-fn is_domain_octet(b: u8) -> bool
-    ensures { λ r. ⌜ r ≡ domain-octet b ⌝ }
-{
-    match b {
-        b'a'..=b'z' => true,
-        b'A'..=b'Z' => true,
-        b'0'..=b'9' => true,
-        b'-' | b'_' => true,
-        _ => false,
-    }
-}
-
-// Whether a label is of 1 to 63 such octets.
+// Whether a label is of 1 to 63 letters, digits, - and _.
 fn is_label(s: &[u8]) -> bool
     ensures { λ r. ⌜ r ≡ good-label (now (s .entry)) ⌝ }
 {
-    if s.len() == 0 {
-        return false;
-    }
-    if 63 < s.len() {
-        return false;
-    }
-    let mut i = 0;
-    while i < s.len() {
-        if !is_domain_octet(s[i]) {
-            return false;
-        }
-        i = i + 1;
-    }
-    true
+    text::is_made_of(s, Class::Word(b'-', b'_', b'_'), 63)
 }
 
 // The length of a text's first label: up to its first dot, or its end.
 fn first_label(s: &[u8]) -> usize
     ensures { λ r. ⌜ r ≡ index 46 (now (s .entry)) ⌝ }
 {
-    let mut i = 0;
-    while i < s.len() {
-        if s[i] == b'.' {
-            return i;
-        }
-        i = i + 1;
-    }
-    i
+    text::find_octet(s, b'.')
 }
 
 // The domain rule.
@@ -90,6 +58,16 @@ pub fn check(s: &[u8]) -> Checked
         return Checked::Bad(Octet(253));
     }
     Checked::Good(Labels(labels))
+}
+
+// Whether a text keeps the domain rule.
+pub fn is_domain(s: &[u8]) -> bool
+    ensures { λ r. ⌜ r ≡ is-domain (now (s .entry)) ⌝ }
+{
+    match check(s) {
+        Checked::Good(_) => true,
+        Checked::Bad(_) => false,
+    }
 }
 
 // The number of labels.
@@ -183,7 +161,6 @@ pub fn write_name(s: &[u8], at: Octet, out: &mut [u8]) -> Written
             place: n,
         });
     }
-    octets::write(b"_dmarc.", out);
-    octets::write_lower(&s[from..], &mut out[7..]);
-    Written::Wrote(n)
+    let next = octets::append(b"_dmarc.", 0, out);
+    Written::Wrote(octets::append_lower(&s[from..], next, out))
 }

@@ -1,9 +1,10 @@
 -- Laws of equality and of lower case.
-use mathlib.Core.Path.{_≡_, refl, ap, ap₂, sym, _∙_, subst}
-use mathlib.Core.List.{[], _∷_}
 use mathlib.Core.Bool.{Bool, true, false, _&&_}
+use mathlib.Core.List.{[], _∷_}
+use mathlib.Core.Path.{_≡_, refl, ap, ap₂, sym, _∙_, subst}
 use Prim.Native.Nat.{ℕ, suc, _+_, _<_}
 use native.Mathlib.Numerals.{add-one}
+use native.Mathlib.Omega.{arith}
 use lib.Dec.{T, eqb, eqb→eq, eqb-refl}
 use lib.ListN.{length, drop, getD, length-map, List·getD-map}
 use lib.Seq.{drop-cons, drop-length}
@@ -55,12 +56,28 @@ and-false : (t : Bool) → (t && false) ≡ false
 and-false true = refl
 and-false false = refl
 
-same-uneven : (a b : Octets) → (length a ≡ length b → ⊥) → same a b ≡ false
+pub same-uneven : (a b : Octets) → (length a ≡ length b → ⊥) → same a b ≡ false
 unfolding same
 same-uneven [] [] h = absurd (h refl)
 same-uneven [] (y ∷ b) h = refl
 same-uneven (x ∷ a) [] h = refl
 same-uneven (x ∷ a) (y ∷ b) h = rw (same-uneven a b (λ e. h (ap suc e)), and-false)
+
+-- one octet more of two texts, and their end
+module _ (a b : Octets) (i : ℕ) where
+  same-step : i < length a → i < length b → same (drop i a) (drop i b) ≡ (eqb (getD a i 0) (getD b i 0) && same (drop (i + 1) a) (drop (i + 1) b))
+  unfolding same
+  same-step h k = rw (drop-cons a i 0 h, drop-cons b i 0 k, add-one)
+
+  pub same-differ : i < length a → i < length b → (getD a i 0 ≡ getD b i 0 → ⊥) → same (drop i a) (drop i b) ≡ false
+  same-differ h k e = rw (same-step h k, ne-eqb _ _ e)
+
+  pub same-agree : i < length a → i < length b → getD a i 0 ≡ getD b i 0 → same (drop i a) (drop i b) ≡ same (drop (i + 1) a) (drop (i + 1) b)
+  same-agree h k e = rw (same-step h k, eq-eqb _ _ e)
+
+  pub same-ended : length a ≡ i → length b ≡ i → same (drop i a) (drop i b) ≡ true
+  unfolding same
+  same-ended h k = rw (← h, drop-length a, h, ← k, drop-length b)
 
 -- ------------------------------------------------------------------ lower case
 
@@ -85,19 +102,24 @@ pub uneven : (a b : Octets) → (length a ≡ length b → ⊥) → same-text a 
 unfolding same-text
 uneven a b h = same-uneven (lower a) (lower b) λ e. h (sym (lower-length a) ∙ e ∙ lower-length b)
 
--- one octet more
-step : (a b : Octets) (i : ℕ) → i < length a → i < length b
-    → same-text (drop i a) (drop i b) ≡ (eqb (lower-octet (getD a i 0)) (lower-octet (getD b i 0)) && same-text (drop (i + 1) a) (drop (i + 1) b))
-unfolding same-text lower same
-step a b i h k = rw (drop-cons a i 0 h, drop-cons b i 0 k, add-one)
+module _ (a b : Octets) (i : ℕ) where
+  pub differ : i < length a → i < length b → (lower-octet (getD a i 0) ≡ lower-octet (getD b i 0) → ⊥) → same-text (drop i a) (drop i b) ≡ false
+  unfolding same-text
+  differ h k e =
+      rw (lower-drop a i, lower-drop b i)
+      (same-differ (lower a) (lower b) i (omega (arith, lower-length a)) (omega (arith, lower-length b)) λ p. e (sym (lower-at a i) ∙ p ∙ lower-at b i))
 
-module _ (a b : Octets) (i : ℕ) (h : i < length a) (k : i < length b) where
-  pub differ : (lower-octet (getD a i 0) ≡ lower-octet (getD b i 0) → ⊥) → same-text (drop i a) (drop i b) ≡ false
-  differ e = rw (step a b i h k, ne-eqb _ _ e)
+  pub agree : i < length a → i < length b → lower-octet (getD a i 0) ≡ lower-octet (getD b i 0) → same-text (drop i a) (drop i b) ≡ same-text (drop (i + 1) a) (drop (i + 1) b)
+  unfolding same-text
+  agree h k e =
+      rw (lower-drop a i, lower-drop b i, lower-drop a (i + 1), lower-drop b (i + 1))
+      (same-agree (lower a) (lower b) i (omega (arith, lower-length a)) (omega (arith, lower-length b)) (lower-at a i ∙ e ∙ sym (lower-at b i)))
 
-  pub agree : lower-octet (getD a i 0) ≡ lower-octet (getD b i 0) → same-text (drop i a) (drop i b) ≡ same-text (drop (i + 1) a) (drop (i + 1) b)
-  agree e = rw (step a b i h k, eq-eqb _ _ e)
+  pub ended : length a ≡ i → length b ≡ i → same-text (drop i a) (drop i b) ≡ true
+  unfolding same-text
+  ended h k = rw (lower-drop a i, lower-drop b i) (same-ended (lower a) (lower b) i (lower-length a ∙ h) (lower-length b ∙ k))
 
-pub ended : (a b : Octets) (i : ℕ) → length a ≡ i → length b ≡ i → same-text (drop i a) (drop i b) ≡ true
-unfolding same-text lower same
-ended a b i h k = rw (← h, drop-length a, h, ← k, drop-length b)
+-- a word that is in lower case already
+pub same-word : (s w : Octets) → lower w ≡ w → same-text s w ≡ same (lower s) w
+unfolding same-text
+same-word s w e = ap (same (lower s)) e

@@ -1,12 +1,13 @@
 -- Octets and texts, and the small tests that the other definitions use.
 use mathlib.Core.List.{List, [], _∷_, map, reverse}
-use mathlib.Core.Bool.{Bool, true, false, _&&_, _||_}
+use mathlib.Core.Bool.{Bool, true, false, _&&_, _||_, not}
 use mathlib.Core.Option.{Option, none as nothing, some as just}
 use Prim.Native.Nat.{ℕ, _+_}
 use Prim.Native.Char.{code}
 use Prim.Native.String
 use Prim.Native.String.{String}
 use lib.Dec.{eqb, leb}
+use lib.ListN.{length}
 
 abbrev pub Octets : Type 0
 Octets = List ℕ
@@ -36,6 +37,10 @@ all f (x ∷ xs) = f x && all f xs
 unfoldable pub any : {A : Type 0} → (A → Bool) → List A → Bool
 any f [] = false
 any f (x ∷ xs) = f x || any f xs
+
+-- a text of 1 to n octets that all pass a test
+unfoldable pub made-of : ℕ → (ℕ → Bool) → Octets → Bool
+made-of n f s = not (is-empty s) && leb (length s) n && all f s
 
 -- equality of two texts, as a test
 unfoldable pub same : Octets → Octets → Bool

@@ -1,10 +1,11 @@
 // Octets: ASCII case, equal texts, writing into lent memory, decimal digits.
 ghost use mathlib.Core.Path.{_≡_};
+ghost use Prim.Native.Nat.{_<_, _^_};
 ghost use lib.ListN.{length};
 ghost use Rattle.octets.specs.Octets.{lower-octet, lower, same-text};
 ghost use Rattle.octets.specs.Decimal.{decimal};
 ghost use Rattle.octets.specs.Refusing.{refusal};
-ghost use Rattle.octets.specs.Lent.{Writes};
+ghost use Rattle.octets.specs.Lent.{Writes, place-after, Appends};
 
 // Document 01's refusal: its number and its place.
 pub struct Refusal {
@@ -26,6 +27,17 @@ fn too_short(needed: usize) -> Written
         number: 10,
         place: needed,
     })
+}
+
+// The place after what was written at a place.
+fn next_place(at: usize, w: Written) -> usize
+    requires { ⌜ place-after at w < 2 ^ 64 ⌝ }
+    ensures { λ r. ⌜ r ≡ place-after at w ⌝ }
+{
+    match w {
+        Written::Wrote(n) => at + n,
+        Written::Refused(_) => at,
+    }
 }
 
 // An octet in lower case.
@@ -118,4 +130,34 @@ pub fn write_decimal(x: u64, out: &mut [u8]) -> Written
         rest = rest / 10;
     }
     Written::Wrote(digits)
+}
+
+// A text from a place of lent memory on, and the place after it.
+pub fn append(text: &[u8], at: usize, out: &mut [u8]) -> usize
+    ensures { λ r. ⌜ Appends (now (text .entry)) at (now (out .entry)) r (now (out .exit)) ⌝ }
+{
+    if out.len() < at {
+        return at;
+    }
+    next_place(at, write(text, &mut out[at..]))
+}
+
+// A text in lower case from a place of lent memory on, and the place after it.
+pub fn append_lower(text: &[u8], at: usize, out: &mut [u8]) -> usize
+    ensures { λ r. ⌜ Appends (lower (now (text .entry))) at (now (out .entry)) r (now (out .exit)) ⌝ }
+{
+    if out.len() < at {
+        return at;
+    }
+    next_place(at, write_lower(text, &mut out[at..]))
+}
+
+// A number in decimal from a place of lent memory on, and the place after it.
+pub fn append_decimal(x: u64, at: usize, out: &mut [u8]) -> usize
+    ensures { λ r. ⌜ Appends (decimal x) at (now (out .entry)) r (now (out .exit)) ⌝ }
+{
+    if out.len() < at {
+        return at;
+    }
+    next_place(at, write_decimal(x, &mut out[at..]))
 }

@@ -1,1 +1,362 @@
-// The walk up a domain, over the answers that are there, and the organizational domain.
+// The walk up a domain over the answers that are kept, and the organizational domain.
+ghost use mathlib.Core.Path.{_≡_};
+ghost use mathlib.Core.Option.{some};
+ghost use Prim.Native.Nat.{_<_, min};
+ghost use lib.ListN.{drop};
+ghost use Rattle.octets.specs.Octets.{same};
+ghost use Rattle.lookup.specs.Lookup.{has, run};
+ghost use Rattle.domain.specs.Domain.{Domain, asked-name};
+ghost use Rattle.walk.specs.Walk.{record-at, found};
+ghost use Rattle.walk.specs.Kept.{part-of, known, looked, looked-standing};
+ghost use Rattle.walk.specs.Kept.{setting-code, mode-code, psd-code, flag-code, settings-code, reply-code};
+ghost use Rattle.walk.specs.Kept.{setting-of, mode-of-code, psd-of, settings-of, reply-of};
+ghost use Rattle.walk.specs.Summary.{summarized, or-else, found-in, ending-standing};
+ghost use Rattle.walk.specs.Turns.{if-at, last-summary, suffix-summary, Judges, Visits};
+use domain::Labels;
+use domain::Octet;
+use policy::Mode;
+use policy::Policy;
+use policy::Psd;
+use policy::Setting;
+use policy::Settings;
+use txt::Reply;
+
+// What is known of a target.
+pub enum Looked {
+    Missing,
+    Known(Reply),
+}
+
+// The record that applies by a walk: where its domain begins, and what it sets.
+pub enum Applicable {
+    Nothing,
+    Record { begin: usize, settings: Settings },
+}
+
+// What a walk without an error gives: where the organizational domain begins, and the record that applies.
+pub struct Organization {
+    pub begin: usize,
+    pub applicable: Applicable,
+}
+
+// How a walk over kept answers ends: at a target without an answer, after an error, or with all its records.
+pub enum Ending {
+    Missing(usize),
+    Failed,
+    Done(Organization),
+}
+
+// What a target makes of a walk: it ends, or goes on with the last record found.
+enum Turn {
+    End(Ending),
+    On(Applicable),
+}
+
+// The setting of p, sp or np, as a digit.
+fn encode_setting(x: Setting) -> usize
+    ensures { λ n. ⌜ (n ≡ setting-code x) × (n < 5) ⌝ }
+{
+    match x {
+        Setting::Absent => 0,
+        Setting::Invalid => 1,
+        Setting::Set(p) => match p {
+            Policy::None => 2,
+            Policy::Quarantine => 3,
+            Policy::Reject => 4,
+        },
+    }
+}
+
+// The mode of adkim or aspf, as a digit.
+fn encode_mode(x: Mode) -> usize
+    ensures { λ n. ⌜ (n ≡ mode-code x) × (n < 2) ⌝ }
+{
+    match x {
+        Mode::Relaxed => 0,
+        Mode::Strict => 1,
+    }
+}
+
+// The setting of psd, as a digit.
+fn encode_psd(x: Psd) -> usize
+    ensures { λ n. ⌜ (n ≡ psd-code x) × (n < 3) ⌝ }
+{
+    match x {
+        Psd::Unset => 0,
+        Psd::Yes => 1,
+        Psd::No => 2,
+    }
+}
+
+// A flag, as a digit.
+fn encode_flag(x: bool) -> usize
+    ensures { λ n. ⌜ (n ≡ flag-code x) × (n < 2) ⌝ }
+{
+    if x {
+        return 1;
+    }
+    0
+}
+
+// What a record sets, as digits of mixed base.
+fn encode_settings(s: Settings) -> usize
+    ensures { λ n. ⌜ (n ≡ settings-code s) × (n < 6000) ⌝ }
+{
+    let p = s.p;
+    let sp = s.sp;
+    let np = s.np;
+    let adkim = s.adkim;
+    let aspf = s.aspf;
+    let psd = s.psd;
+    encode_setting(p)
+        + 5 * encode_setting(sp)
+        + 25 * encode_setting(np)
+        + 125 * encode_mode(adkim)
+        + 250 * encode_mode(aspf)
+        + 500 * encode_psd(psd)
+        + 1500 * encode_flag(s.t)
+        + 3000 * encode_flag(s.reports)
+}
+
+// A reply as a number, to keep.
+pub fn encode(r: Reply) -> usize
+    ensures { λ n. ⌜ n ≡ reply-code r ⌝ }
+{
+    match r {
+        Reply::Error => 0,
+        Reply::NoRecord => 1,
+        Reply::Record(s) => 2 + encode_settings(s),
+    }
+}
+
+// The setting of p, sp or np, of its digit.
+fn decode_setting(n: usize) -> Setting
+    ensures { λ r. ⌜ r ≡ setting-of n ⌝ }
+{
+    match n {
+        0 => Setting::Absent,
+        1 => Setting::Invalid,
+        2 => Setting::Set(Policy::None),
+        3 => Setting::Set(Policy::Quarantine),
+        _ => Setting::Set(Policy::Reject),
+    }
+}
+
+// The mode of adkim or aspf, of its digit.
+fn decode_mode(n: usize) -> Mode
+    ensures { λ r. ⌜ r ≡ mode-of-code n ⌝ }
+{
+    match n {
+        0 => Mode::Relaxed,
+        _ => Mode::Strict,
+    }
+}
+
+// The setting of psd, of its digit.
+fn decode_psd(n: usize) -> Psd
+    ensures { λ r. ⌜ r ≡ psd-of n ⌝ }
+{
+    match n {
+        0 => Psd::Unset,
+        1 => Psd::Yes,
+        _ => Psd::No,
+    }
+}
+
+// What a record sets, of its digits.
+fn decode_settings(n: usize) -> Settings
+    ensures { λ r. ⌜ r ≡ settings-of n ⌝ }
+{
+    Settings {
+        p: decode_setting(n % 5),
+        sp: decode_setting(n / 5 % 5),
+        np: decode_setting(n / 25 % 5),
+        adkim: decode_mode(n / 125 % 2),
+        aspf: decode_mode(n / 250 % 2),
+        psd: decode_psd(n / 500 % 3),
+        t: n / 1500 % 2 != 0,
+        reports: n / 3000 % 2 != 0,
+    }
+}
+
+// A kept reply.
+pub fn decode(code: usize) -> Reply
+    ensures { λ r. ⌜ r ≡ reply-of code ⌝ }
+{
+    match code {
+        0 => Reply::Error,
+        1 => Reply::NoRecord,
+        _ => Reply::Record(decode_settings(code - 2)),
+    }
+}
+
+// The smaller of two numbers.
+fn smaller(a: usize, b: usize) -> usize
+    ensures { λ r. ⌜ r ≡ min a b ⌝ }
+{
+    if a < b {
+        return a;
+    }
+    b
+}
+
+// The part of a text from one place to another, as far as the text goes.
+pub fn part<'a>(s: &'a [u8], from: usize, end: usize) -> &'a [u8]
+    ensures { λ r. ⌜ now r ≡ part-of (now (s .entry)) from end ⌝ }
+{
+    let stop = smaller(end, s.len());
+    let begin = smaller(from, stop);
+    &s[begin..stop]
+}
+
+// What the kept answers say of a target.
+pub fn look_up<'a>(domains: &'a [u8], kept: &'a [usize], count: usize, target: &'a [u8]) -> Looked
+    ensures { λ r. ⌜ r ≡ looked (known (now (domains .entry)) count (now (kept .entry)) (asked-name (now (target .entry)))) ⌝ }
+{
+    let mut more = count;
+    let mut at = 0;
+    while 0 < more {
+        if kept.len() - at < 3 {
+            return Looked::Missing;
+        }
+        if octets::same_text(target, part(domains, kept[at], kept[at + 1])) {
+            return Looked::Known(decode(kept[at + 2]));
+        }
+        at = at + 3;
+        more = more - 1;
+    }
+    Looked::Missing
+}
+
+// What they say of the target that begins at a place. One too long to ask has no record.
+pub fn look_at<'a>(
+    domains: &'a [u8],
+    kept: &'a [usize],
+    count: usize,
+    d: &'a [u8],
+    at: usize,
+) -> Looked
+    ensures { λ r. ⌜ looked-standing (drop at (now (d .entry))) r ≡ run (known (now (domains .entry)) count (now (kept .entry))) (record-at (drop at (now (d .entry)))) ⌝ }
+{
+    if !domain::is_asked(d, Octet(at)) {
+        return Looked::Known(Reply::NoRecord);
+    }
+    look_up(domains, kept, count, part(d, at, d.len()))
+}
+
+// Whether the ends of a text that begin at two places are the same.
+fn same_end(d: &[u8], a: usize, b: usize) -> bool
+    ensures { λ r. ⌜ r ≡ same (drop a (now (d .entry))) (drop b (now (d .entry))) ⌝ }
+{
+    smaller(a, d.len()) == smaller(b, d.len())
+}
+
+// The end of a walk whose last record is this one.
+fn finish(last: Applicable) -> Ending
+    ensures { λ r. ⌜ ((d : Domain) → ending-standing d r ≡ has (some (last-summary d (found-in d last)))) ⌝ }
+{
+    match last {
+        Applicable::Nothing => Ending::Done(Organization {
+            begin: 0,
+            applicable: last,
+        }),
+        Applicable::Record { begin, settings: _ } => Ending::Done(Organization {
+            begin,
+            applicable: last,
+        }),
+    }
+}
+
+// The last record found, if it is at a place, else another.
+fn choose(d: &[u8], at: usize, last: Applicable, other: Applicable) -> Applicable
+    ensures { λ r. ⌜ found-in (now (d .entry)) r ≡ or-else (if-at (drop at (now (d .entry))) (found-in (now (d .entry)) last)) (found-in (now (d .entry)) other) ⌝ }
+{
+    let Applicable::Record { begin, settings: _ } = last else {
+        return other;
+    };
+    if same_end(d, begin, at) {
+        return last;
+    }
+    other
+}
+
+// The end of a walk at a psd=y record.
+fn finish_suffix(d: &[u8], at: usize, last: Applicable, settings: Settings) -> Ending
+    ensures { λ r. ⌜ ending-standing (now (d .entry)) r ≡ has (some (suffix-summary (now (d .entry)) (found-in (now (d .entry)) last) (found (drop at (now (d .entry))) settings))) ⌝ }
+{
+    let record = Applicable::Record {
+        begin: at,
+        settings,
+    };
+    if same_end(d, at, 0) {
+        return finish(record);
+    }
+    let n = domain::count_labels(part(d, at, d.len())).0;
+    let begin = domain::find_last(d, Labels(n + 1)).0;
+    Ending::Done(Organization {
+        begin,
+        applicable: choose(d, begin, last, record),
+    })
+}
+
+// A walk after a reply at a target.
+fn judge(d: &[u8], at: usize, last: Applicable, r: Reply) -> Turn
+    ensures { λ t. ⌜ Judges (now (d .entry)) at last r t ⌝ }
+{
+    match r {
+        Reply::Error => Turn::End(Ending::Failed),
+        Reply::NoRecord => Turn::On(last),
+        Reply::Record(settings) => {
+            let record = Applicable::Record {
+                begin: at,
+                settings,
+            };
+            let end = finish(record);
+            let psd = settings.psd;
+            match psd {
+                Psd::Yes => Turn::End(finish_suffix(d, at, last, settings)),
+                Psd::No => Turn::End(end),
+                Psd::Unset => Turn::On(record),
+            }
+        }
+    }
+}
+
+// A walk after one target.
+fn visit<'a>(
+    domains: &'a [u8],
+    kept: &'a [usize],
+    count: usize,
+    d: &'a [u8],
+    at: usize,
+    last: Applicable,
+) -> Turn
+    ensures { λ t. ⌜ Visits (known (now (domains .entry)) count (now (kept .entry))) (now (d .entry)) at last t ⌝ }
+{
+    match look_at(domains, kept, count, d, at) {
+        Looked::Missing => Turn::End(Ending::Missing(at)),
+        Looked::Known(r) => judge(d, at, last, r),
+    }
+}
+
+// The walk from a domain over the kept answers.
+pub fn follow<'a>(domains: &'a [u8], kept: &'a [usize], count: usize, d: &'a [u8]) -> Ending
+    ensures { λ r. ⌜ ending-standing (now (d .entry)) r ≡ run (known (now (domains .entry)) count (now (kept .entry))) (summarized (now (d .entry))) ⌝ }
+{
+    let n = domain::count_targets(d);
+    let mut last = Applicable::Nothing;
+    let mut left = n;
+    while 0 < left {
+        let at = domain::find_target(d, n - left).0;
+        match visit(domains, kept, count, d, at, last) {
+            Turn::End(e) => {
+                return e;
+            }
+            Turn::On(next) => {
+                last = next;
+            }
+        }
+        left = left - 1;
+    }
+    finish(last)
+}

@@ -1,0 +1,12 @@
+-- `policy::force::as_none` meets its contract: the three policies are none, and the other settings stay.
+use mathlib.Core.Path.{refl}
+use Rattle.policy.specs.InForce.{as-none}
+use Rattle.policy.proofs.force.as_none.Statement.{statement}
+use Rattle.policy.proofs.force.as_none.Tie as tie
+
+returns : tie.Need-returns
+unfolding as-none
+returns c = refl
+
+pub as-none-spec : {M : Type 1} → statement M
+as-none-spec = tie.close (tie.spec returns)

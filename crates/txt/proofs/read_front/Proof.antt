@@ -1,0 +1,76 @@
+-- `txt::read_front` meets its contract: each return by the tests that led to it.
+use borrow.Author.Tests.{lt-ltb, le-ltb, le-leb, lt-leb, eq-eqb, ne-eqb}
+use borrow.Author.Needs.{needs}
+use Rattle.txt.specs.Steps.{front-of}
+use Rattle.txt.proofs.read_front.Statement.{statement}
+use Rattle.txt.proofs.read_front.Tie as tie
+
+returns : tie.Need-returns
+unfolding front-of
+returns c = simp (lt-ltb _ _ (c .if1 .taken))
+
+shared-slice-read-if2 : tie.Need-shared-slice-read-if2
+shared-slice-read-if2 c = search needs
+
+returns-2 : tie.Need-returns-2
+unfolding front-of
+returns-2 c = simp (le-ltb _ _ (c .before .before .if1 .left), ne-eqb _ _ (c .if2 .taken))
+
+shared-slice-read-if3 : tie.Need-shared-slice-read-if3
+shared-slice-read-if3 c = search needs
+
+returns-3 : tie.Need-returns-3
+unfolding front-of
+returns-3 c = simp (le-ltb _ _ (c .before .before .before .before .if1 .left), eq-eqb _ _ (c .before .before .if2 .left), ne-eqb _ _ (c .if3 .taken))
+
+shared-slice-read-wide : tie.Need-shared-slice-read-wide
+shared-slice-read-wide c = search needs
+
+wide-requires : tie.Need-wide-requires
+wide-requires c κs = search needs
+
+mul-n : tie.Need-mul-n
+mul-n c = search needs
+
+shared-slice-read-wide-2 : tie.Need-shared-slice-read-wide-2
+shared-slice-read-wide-2 c = search needs
+
+wide-requires-2 : tie.Need-wide-requires-2
+wide-requires-2 c κs = search needs
+
+add-n : tie.Need-add-n
+add-n c = search needs
+
+sub-if4 : tie.Need-sub-if4
+sub-if4 c = search needs
+
+returns-4 : tie.Need-returns-4
+unfolding front-of
+returns-4 c =
+    let t = rw (c .before .before .before .wide .ensures .0, c .before .wide2 .ensures .0) at (c .if4 .taken) in
+    simp (le-ltb _ _ (c .before .before .before .before .before .before .before .before .before .if1 .left), eq-eqb _ _ (c .before .before .before .before .before .before .before .if2 .left), eq-eqb _ _ (c .before .before .before .before .before .if3 .left), lt-leb _ _ t)
+
+returns-5 : tie.Need-returns-5
+unfolding front-of
+returns-5 c =
+    let t = rw (c .before .before .before .wide .ensures .0, c .before .wide2 .ensures .0) at (c .if4 .left) in
+    simp (le-ltb _ _ (c .before .before .before .before .before .before .before .before .before .if1 .left), eq-eqb _ _ (c .before .before .before .before .before .before .before .if2 .left), eq-eqb _ _ (c .before .before .before .before .before .if3 .left), le-leb _ _ t, c .before .before .before .wide .ensures .0, c .before .wide2 .ensures .0)
+
+pub read-front-spec : {M : Type 1} → statement M
+read-front-spec =
+    tie.close
+    (tie.spec
+    returns
+    shared-slice-read-if2
+    returns-2
+    shared-slice-read-if3
+    returns-3
+    shared-slice-read-wide
+    wide-requires
+    mul-n
+    shared-slice-read-wide-2
+    wide-requires-2
+    add-n
+    sub-if4
+    returns-4
+    returns-5)

@@ -1,0 +1,92 @@
+//! The domain rule, labels, walk targets and asked names.
+
+/// "domain: 253 octets"
+pub const MOST_OCTETS: usize = 253;
+/// "labels 1 to 63"
+pub const MOST_LABEL_OCTETS: usize = 63;
+/// "A target over 246 octets is not asked"
+pub const MOST_TARGET_OCTETS: usize = 246;
+/// "the whole asked name, `_dmarc.` included"
+pub const PREFIX: &[u8] = b"_dmarc.";
+
+/// A domain that keeps the rule, in lower case ("ASCII case never matters").
+#[derive(Clone, Debug, PartialEq, Eq)]
+pub struct Domain {
+    octets: Vec<u8>,
+}
+
+/// Where a text breaks the domain rule, if it does: "where the first bad label
+/// begins; 0 if empty; 253 if only the length is wrong".
+pub fn fault(text: &[u8]) -> Option<usize> {
+    let mut begin = 0;
+    for label in text.split(|octet| *octet == b'.') {
+        if !good_label(label) {
+            return Some(begin);
+        }
+        begin += label.len() + 1;
+    }
+    (text.len() > MOST_OCTETS).then_some(MOST_OCTETS)
+}
+
+/// "letters, digits, `-` and `_`", 1 to 63 of them.
+fn good_label(label: &[u8]) -> bool {
+    let good = |octet: &u8| octet.is_ascii_alphanumeric() || *octet == b'-' || *octet == b'_';
+    !label.is_empty() && label.len() <= MOST_LABEL_OCTETS && label.iter().all(good)
+}
+
+impl Domain {
+    /// Reads a domain, or says where it breaks the rule.
+    pub fn read(text: &[u8]) -> Result<Domain, usize> {
+        match fault(text) {
+            Some(place) => Err(place),
+            None => Ok(Domain {
+                octets: text.to_ascii_lowercase(),
+            }),
+        }
+    }
+
+    pub fn octets(&self) -> &[u8] {
+        &self.octets
+    }
+
+    fn labels(&self) -> Vec<&[u8]> {
+        self.octets.split(|octet| *octet == b'.').collect()
+    }
+
+    pub fn label_count(&self) -> usize {
+        self.labels().len()
+    }
+
+    /// The domain's last labels, at least one and at most all.
+    pub fn last_labels(&self, count: usize) -> Domain {
+        let labels = self.labels();
+        let dropped = labels.len().saturating_sub(count.max(1));
+        let kept: Vec<&[u8]> = labels.into_iter().skip(dropped).collect();
+        Domain {
+            octets: kept.join(&b'.'),
+        }
+    }
+
+    /// "looks at the domain, then its last x-1 labels, or its last 7 if x is
+    /// over 8, then one label fewer each time down to one"
+    pub fn walk_targets(&self) -> Vec<Domain> {
+        let x = self.label_count();
+        let second = if x > 8 { 7 } else { x - 1 };
+        let mut targets = vec![self.clone()];
+        for count in (1..=second).rev() {
+            targets.push(self.last_labels(count));
+        }
+        targets
+    }
+
+    /// The name that is asked for this target; "a target over 246 octets is
+    /// not asked".
+    pub fn asked_name(&self) -> Option<Vec<u8>> {
+        (self.octets.len() <= MOST_TARGET_OCTETS).then(|| [PREFIX, &self.octets].concat())
+    }
+
+    /// The octet place at which a target begins in this domain.
+    pub fn place_of(&self, target: &Domain) -> usize {
+        self.octets.len().saturating_sub(target.octets.len())
+    }
+}

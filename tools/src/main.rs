@@ -1,0 +1,128 @@
+//! Runs, makes and describes sheets, and generates them from a seed.
+
+use std::fs;
+use std::io::{self, Read, Write};
+use std::path::Path;
+use std::process::ExitCode;
+
+use tools::generate::SheetKind;
+use tools::marked::MARKED;
+use tools::tally::tally;
+use tools::{describe, sheet, vectors};
+
+const USAGE: &str = "usage:
+  dmarc-tools run < sheet
+  dmarc-tools make < description > sheet
+  dmarc-tools describe < sheet
+  dmarc-tools sheets KIND SEED COUNT DIR
+  dmarc-tools tally KIND SEED COUNT
+  dmarc-tools marked
+  dmarc-tools vectors CASES EXPECTED
+KIND is ordinary or hostile.";
+
+fn main() -> ExitCode {
+    let words: Vec<String> = std::env::args().skip(1).collect();
+    let words: Vec<&str> = words.iter().map(String::as_str).collect();
+    let outcome = match words.as_slice() {
+        ["run"] => run(),
+        ["make"] => make(),
+        ["describe"] => described(),
+        ["sheets", kind, seed, count, dir] => sheets(kind, seed, count, dir),
+        ["tally", kind, seed, count] => tallied(kind, seed, count),
+        ["marked"] => marked(),
+        ["vectors", cases, expected] => write_vectors(cases, expected),
+        _ => Err(USAGE.to_string()),
+    };
+    match outcome {
+        Ok(()) => ExitCode::SUCCESS,
+        Err(reason) => {
+            eprintln!("{reason}");
+            ExitCode::FAILURE
+        }
+    }
+}
+
+fn failed(error: io::Error) -> String {
+    error.to_string()
+}
+
+/// Standard input, up to so many octets.
+fn input(most: u64) -> Result<Vec<u8>, String> {
+    let mut octets = Vec::new();
+    let mut limited = io::stdin().lock().take(most);
+    limited.read_to_end(&mut octets).map_err(failed)?;
+    Ok(octets)
+}
+
+fn output(octets: &[u8]) -> Result<(), String> {
+    let mut out = io::stdout().lock();
+    out.write_all(octets).map_err(failed)?;
+    out.flush().map_err(failed)
+}
+
+fn run() -> Result<(), String> {
+    // One octet over the limit settles that a sheet is over it.
+    let octets = input(sheet::MOST_OCTETS as u64 + 1)?;
+    output(&sheet::run(&octets))
+}
+
+fn make() -> Result<(), String> {
+    output(&describe::make(&input(u64::MAX)?)?)
+}
+
+fn described() -> Result<(), String> {
+    output(describe::describe(&input(u64::MAX)?).as_bytes())
+}
+
+fn numbers(kind: &str, seed: &str, count: &str) -> Result<(SheetKind, u64, u64), String> {
+    let kind = SheetKind::read(kind).ok_or("KIND is ordinary or hostile")?;
+    let seed = seed.parse().map_err(|_| "SEED is a number")?;
+    let count = count.parse().map_err(|_| "COUNT is a number")?;
+    Ok((kind, seed, count))
+}
+
+fn sheets(kind_word: &str, seed: &str, count: &str, dir: &str) -> Result<(), String> {
+    let (kind, seed, count) = numbers(kind_word, seed, count)?;
+    fs::create_dir_all(dir).map_err(failed)?;
+    for index in 0..count {
+        let file = Path::new(dir).join(format!("{kind_word}-{seed}-{index:06}.sheet"));
+        fs::write(file, kind.sheet(seed, index)).map_err(failed)?;
+    }
+    Ok(())
+}
+
+fn tallied(kind: &str, seed: &str, count: &str) -> Result<(), String> {
+    let (kind, seed, count) = numbers(kind, seed, count)?;
+    let tally = tally(kind, seed, count);
+    output(tally.to_string().as_bytes())?;
+    eprintln!("time of the runs: {} ms", tally.time.as_millis());
+    Ok(())
+}
+
+fn marked() -> Result<(), String> {
+    let mut held = 0;
+    for row in MARKED {
+        let holds = row.holds();
+        held += usize::from(holds);
+        let word = if holds { "as marked" } else { "DIFFERENT" };
+        output(format!("marked sheet {}: {word}\n", row.name).as_bytes())?;
+    }
+    output(format!("{held} of {} as marked\n", MARKED.len()).as_bytes())?;
+    match held == MARKED.len() {
+        true => Ok(()),
+        false => Err("some marked sheets came out differently".to_string()),
+    }
+}
+
+/// Writes both files, and prints how many cases of each kind there are.
+fn write_vectors(cases_path: &str, expected_path: &str) -> Result<(), String> {
+    let (octets, lines) = vectors::files().ok_or("a case is too long for its length")?;
+    fs::write(cases_path, octets).map_err(failed)?;
+    fs::write(expected_path, lines).map_err(failed)?;
+    let cases = vectors::cases();
+    for kind in b"PAFI" {
+        let count = cases.iter().filter(|case| case.kind() == *kind).count();
+        output(format!("{} {count}\n", char::from(*kind)).as_bytes())?;
+    }
+    Ok(())
+}
