@@ -1,9 +1,10 @@
 // Texts: classes of octets, equal texts, front parts, trimming.
 ghost use mathlib.Core.Path.{_≡_};
 ghost use mathlib.Core.Bool.{not};
+ghost use Prim.Native.Nat.{min};
 ghost use lib.Dec.{eqb};
 ghost use lib.ListN.{length, drop};
-ghost use Rattle.octets.specs.Octets.{made-of, same, between, is-letter, is-digit, one-of, front, after, is-blank, trim-end, trim};
+ghost use Rattle.octets.specs.Octets.{made-of, same, between, is-letter, is-digit, one-of, part-of, front, after, is-blank, trim-end, trim};
 ghost use Rattle.text.specs.Classes.{in-class};
 
 // A class of octets.
@@ -166,6 +167,25 @@ pub fn skip(s: &[u8], n: usize) -> &[u8]
         return &s[0..0];
     }
     &s[n..]
+}
+
+// The smaller of two numbers.
+pub fn smaller(a: usize, b: usize) -> usize
+    ensures { λ r. ⌜ r ≡ min a b ⌝ }
+{
+    if a < b {
+        return a;
+    }
+    b
+}
+
+// The part of a text from one place to another, as far as the text goes.
+pub fn part<'a>(s: &'a [u8], from: usize, end: usize) -> &'a [u8]
+    ensures { λ r. ⌜ now r ≡ part-of (now (s .entry)) from end ⌝ }
+{
+    let stop = smaller(end, s.len());
+    let begin = smaller(from, stop);
+    &s[begin..stop]
 }
 
 // A text without the blanks at its end.

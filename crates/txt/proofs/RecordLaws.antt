@@ -11,7 +11,7 @@ use lib.Dec.{leb, eqb}
 use lib.ListN.{length, take, drop}
 use Rattle.octets.specs.Octets.{Octets, if_then_else_}
 use Rattle.octets.specs.Lent.{over}
-use Rattle.text.proofs.PartLaws.{rest-of}
+use Rattle.octets.proofs.LentLaws.{rest-of}
 use Rattle.policy.specs.declared.Settings.{Settings}
 use Rattle.policy.specs.declared.Reading.{Reading}
 use Rattle.policy.specs.Records.{read-policy}
@@ -102,7 +102,7 @@ first (b ∷ c ∷ h ∷ l ∷ bs) k f =
     let q : k + 4 - 4 ≡ k = omega arith in
     record {
       within = omega (arith, p .1, leb-true (h * 256 + l) (length bs) (and-eq-true-iff (eqb b 84 && eqb c 88) (leb (h * 256 + l) (length bs)) .0 (p .0) .1));
-      texts = λ n. rw (rest-of (k + 4) (b ∷ c ∷ h ∷ l ∷ bs), q, add-four k, ← (p .1)) (texts-whole b c h l bs n (p .0));
+      texts = λ n. rw (rest-of (b ∷ c ∷ h ∷ l ∷ bs) (k + 4), q, add-four k, ← (p .1)) (texts-whole b c h l bs n (p .0));
     }
 
 -- whether all can be read, with a budget of n records

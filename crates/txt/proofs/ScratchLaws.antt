@@ -12,7 +12,7 @@ use lib.Seq.{take-at, drop-at, drop-drop, drop-length}
 use Rattle.octets.specs.Octets.{Octets}
 use Rattle.octets.specs.Lent.{over, fits, left, Writes}
 use Rattle.octets.specs.declared.Written.{Written}
-use Rattle.text.proofs.PartLaws.{rest-of}
+use Rattle.octets.proofs.LentLaws.{rest-of}
 use Rattle.txt.specs.Steps.{is-there, or-empty, Room}
 
 -- the octets of l from a to b, and from a on
@@ -69,7 +69,7 @@ module _ (s m : Octets) (o : Option Octets) (room : Room (onto s o) m) where
 
     unfilled : rest k m₁ ≡ drop k m
     unfolding over
-    unfilled = rw (rest-of k m₁, e₁, drop-at s (drop (length s) m) k (sym e), e)
+    unfilled = rw (rest-of m₁ k, e₁, drop-at s (drop (length s) m) k (sym e), e)
 
     pub begun : Begun (onto s o) o m m₁ k
     unfolding over

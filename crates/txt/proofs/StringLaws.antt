@@ -13,7 +13,7 @@ use lib.Seq.{length-take-le}
 use Rattle.octets.specs.Octets.{Octets}
 use Rattle.octets.specs.Lent.{Writes}
 use Rattle.octets.specs.declared.Written.{Written}
-use Rattle.text.proofs.PartLaws.{rest-of}
+use Rattle.octets.proofs.LentLaws.{rest-of}
 use Rattle.txt.specs.Answers.{push, joined, text-of}
 use Rattle.txt.specs.Steps.{is-there, Room}
 use Rattle.txt.proofs.ScratchLaws.{part, rest, wrote, onto, onto-there, first-fits, Begun, begun}
@@ -79,7 +79,7 @@ module _ (l : Octets) (k : ℕ) (e : k ≡ getD l 0 0) (h : 0 < length l) where
   apart : k + 1 ≤ length l → joined 0 l ≡ onto (part 1 (k + 1) l) (joined 0 (rest (k + 1) l))
   apart r =
       let q : k + 1 - 1 ≡ k = omega arith in
-      rw (q, rest-of (k + 1) l, e) (first-string l h (rw (← e) r))
+      rw (q, rest-of l (k + 1), e) (first-string l h (rw (← e) r))
 
   pub one-passed : k + 1 ≤ length l → is-there (joined 0 l) ≡ is-there (joined 0 (rest (k + 1) l))
   one-passed r = rw (apart r, onto-there)

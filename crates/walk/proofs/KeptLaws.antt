@@ -1,50 +1,20 @@
--- Laws of parts of a text, and of what is known of a name.
+-- Laws of what is known of a name.
 use mathlib.Core.Path.{_≡_, refl, ap, _∙_}
 use mathlib.Core.List.{List, [], _∷_}
 use mathlib.Core.Bool.{Bool, true, false}
 use mathlib.Core.Option.{Option, none as nothing, some as just}
-use Prim.Native.Nat.{ℕ, zero, suc, _+_, _-_, _≤_, _<_, min}
-use native.Mathlib.Decide.{decLe}
+use Prim.Native.Nat.{ℕ, zero, suc, _+_, _-_, _≤_, _<_}
 use native.Mathlib.Numerals.{add-one, add-two, add-three}
 use native.Mathlib.Omega.{arith}
-use lib.ListN.{length, take, drop, getD, length-drop}
-use lib.Seq.{drop-cons, take-all}
-use Rattle.octets.specs.Octets.{Octets, octets, same, same-text, if_then_else_}
-use Rattle.octets.proofs.LentLaws.{rest-of}
+use lib.ListN.{length, drop, getD, length-drop}
+use lib.Seq.{drop-cons}
+use Rattle.octets.specs.Octets.{Octets, octets, same, same-text, if_then_else_, part-of}
 use Rattle.lookup.specs.Lookup.{Name, look-up, find, run}
 use Rattle.domain.specs.Domain.{Domain, can-ask, asked-name}
 use Rattle.txt.specs.declared.Reply.{Reply}
 use Rattle.walk.specs.Walk.{record-at}
-use Rattle.walk.specs.Kept.{part-of, reply-of, kept-answers, known, looked, looked-standing}
+use Rattle.walk.specs.Kept.{reply-of, kept-answers, known, looked, looked-standing}
 use Rattle.walk.specs.declared.Looked.{Looked}
-
--- ------------------------------------------------------------------ a part of a text
-
--- only as many octets are taken as there are
-take-least : (n : ℕ) (s : Octets) → take (min n (length s)) s ≡ take n s
-take-least n s = go (decLe n (length s))
-  where
-    go : Dec (n ≤ length s) → take (min n (length s)) s ≡ take n s
-    go (yes h) = let e : min n (length s) ≡ n = omega arith in rw e
-    go (no h) = rw (take-all (min n (length s)) s (omega arith), take-all n s (omega arith))
-
--- a part, as the code takes it
-module _ (s : Octets) (from end begin stop : ℕ) (e : stop ≡ min end (length s)) (f : begin ≡ min from stop) where
-  part-size : stop - begin ≡ min (end - from) (length s - from)
-  part-size = omega arith
-
-  pub clipped-part : take (stop - begin) (drop begin s) ≡ part-of s from end
-  unfolding part-of
-  clipped-part = rw (part-size, ← take-least (end - from) (drop from s), length-drop) (go (decLe from stop))
-    where
-      go : Dec (from ≤ stop) → take (min (end - from) (length s - from)) (drop begin s) ≡ take (min (end - from) (length s - from)) (drop from s)
-      go (yes h) = let same : begin ≡ from = omega arith in rw same
-      go (no h) = let none : min (end - from) (length s - from) ≡ 0 = omega arith in rw none
-
--- a part up to the end of the text
-pub part-rest : (s : Octets) (at : ℕ) → part-of s at (length s) ≡ drop at s
-unfolding part-of
-part-rest s at = rest-of s at
 
 -- ------------------------------------------------------------------ asked names
 

@@ -9,8 +9,9 @@ use lib.Dec.{eqb}
 use lib.ListN.{length, drop, getD, length-drop, drop-of-length-le}
 use lib.Seq.{drop-cons}
 use borrow.Author.Tests.{eqb-true, eqb-false}
-use Rattle.octets.specs.Octets.{same}
+use Rattle.octets.specs.Octets.{same, part-of}
 use Rattle.octets.proofs.TextLaws.{same-self, same-uneven}
+use Rattle.text.proofs.PartLaws.{part-rest}
 use Rattle.lookup.specs.Lookup.{Name, Standing, has, run}
 use Rattle.lookup.proofs.RunLaws.{onward, run-bind}
 use Rattle.domain.specs.Domain.{Domain, label-count, last-labels, targets}
@@ -23,11 +24,10 @@ use Rattle.policy.specs.declared.Settings.{Settings}
 use Rattle.txt.specs.declared.Reply.{Reply}
 use Rattle.walk.specs.Walk.{record-at, Found, found}
 use Rattle.walk.specs.Summary.{Summary, or-else, summarized}
-use Rattle.walk.specs.Kept.{part-of, looked-standing}
+use Rattle.walk.specs.Kept.{looked-standing}
 use Rattle.walk.specs.Turns.{if-at, last-summary, one-more, suffix-summary, by-found, by-reply, summarized-from, turn-standing}
 use Rattle.walk.specs.declared.Looked.{Looked}
 use Rattle.walk.specs.declared.Turn.{Turn}
-use Rattle.walk.proofs.KeptLaws.{part-rest}
 use Rattle.walk.proofs.SummaryLaws.{summarized-last}
 
 -- ------------------------------------------------------------------ ends of a text

@@ -4,8 +4,7 @@ use mathlib.Core.Bool.{Bool, true, false, not}
 use mathlib.Core.Option.{Option, none as nothing, some as just}
 use Prim.Native.Nat.{ℕ, zero, suc, _+_, _*_, _-_, _/_, _%_}
 use lib.Dec.{eqb}
-use lib.ListN.{take, drop}
-use Rattle.octets.specs.Octets.{Octets, if_then_else_}
+use Rattle.octets.specs.Octets.{Octets, if_then_else_, part-of}
 use Rattle.lookup.specs.Lookup.{Answers, Name, Standing, needs, has, find}
 use Rattle.domain.specs.Domain.{Domain, asked-name}
 use Rattle.policy.specs.declared.Policy.{Policy}
@@ -15,10 +14,6 @@ use Rattle.policy.specs.declared.Psd.{Psd}
 use Rattle.policy.specs.declared.Settings.{Settings}
 use Rattle.txt.specs.declared.Reply.{Reply}
 use Rattle.walk.specs.declared.Looked.{Looked}
-
--- the part of a text from one place to another
-unfoldable pub part-of : Octets → (from end : ℕ) → Octets
-part-of s from end = take (end - from) (drop from s)
 
 -- ------------------------------------------------------------------ a reply as a number
 

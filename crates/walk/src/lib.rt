@@ -1,13 +1,13 @@
 // The walk up a domain over the answers that are kept, and the organizational domain.
 ghost use mathlib.Core.Path.{_≡_};
 ghost use mathlib.Core.Option.{some};
-ghost use Prim.Native.Nat.{_<_, min};
+ghost use Prim.Native.Nat.{_<_};
 ghost use lib.ListN.{drop};
 ghost use Rattle.octets.specs.Octets.{same};
 ghost use Rattle.lookup.specs.Lookup.{has, run};
 ghost use Rattle.domain.specs.Domain.{Domain, asked-name};
 ghost use Rattle.walk.specs.Walk.{record-at, found};
-ghost use Rattle.walk.specs.Kept.{part-of, known, looked, looked-standing};
+ghost use Rattle.walk.specs.Kept.{known, looked, looked-standing};
 ghost use Rattle.walk.specs.Kept.{setting-code, mode-code, psd-code, flag-code, settings-code, reply-code};
 ghost use Rattle.walk.specs.Kept.{setting-of, mode-of-code, psd-of, settings-of, reply-of};
 ghost use Rattle.walk.specs.Summary.{summarized, or-else, found-in, ending-standing};
@@ -190,25 +190,6 @@ pub fn decode(code: usize) -> Reply
     }
 }
 
-// The smaller of two numbers.
-fn smaller(a: usize, b: usize) -> usize
-    ensures { λ r. ⌜ r ≡ min a b ⌝ }
-{
-    if a < b {
-        return a;
-    }
-    b
-}
-
-// The part of a text from one place to another, as far as the text goes.
-pub fn part<'a>(s: &'a [u8], from: usize, end: usize) -> &'a [u8]
-    ensures { λ r. ⌜ now r ≡ part-of (now (s .entry)) from end ⌝ }
-{
-    let stop = smaller(end, s.len());
-    let begin = smaller(from, stop);
-    &s[begin..stop]
-}
-
 // What the kept answers say of a target.
 pub fn look_up<'a>(domains: &'a [u8], kept: &'a [usize], count: usize, target: &'a [u8]) -> Looked
     ensures { λ r. ⌜ r ≡ looked (known (now (domains .entry)) count (now (kept .entry)) (asked-name (now (target .entry)))) ⌝ }
@@ -219,7 +200,7 @@ pub fn look_up<'a>(domains: &'a [u8], kept: &'a [usize], count: usize, target: &
         if kept.len() - at < 3 {
             return Looked::Missing;
         }
-        if octets::same_text(target, part(domains, kept[at], kept[at + 1])) {
+        if octets::same_text(target, text::part(domains, kept[at], kept[at + 1])) {
             return Looked::Known(decode(kept[at + 2]));
         }
         at = at + 3;
@@ -241,14 +222,14 @@ pub fn look_at<'a>(
     if !domain::is_asked(d, Octet(at)) {
         return Looked::Known(Reply::NoRecord);
     }
-    look_up(domains, kept, count, part(d, at, d.len()))
+    look_up(domains, kept, count, text::part(d, at, d.len()))
 }
 
 // Whether the ends of a text that begin at two places are the same.
 fn same_end(d: &[u8], a: usize, b: usize) -> bool
     ensures { λ r. ⌜ r ≡ same (drop a (now (d .entry))) (drop b (now (d .entry))) ⌝ }
 {
-    smaller(a, d.len()) == smaller(b, d.len())
+    text::smaller(a, d.len()) == text::smaller(b, d.len())
 }
 
 // The end of a walk whose last record is this one.
@@ -291,7 +272,7 @@ fn finish_suffix(d: &[u8], at: usize, last: Applicable, settings: Settings) -> E
     if same_end(d, at, 0) {
         return finish(record);
     }
-    let n = domain::count_labels(part(d, at, d.len())).0;
+    let n = domain::count_labels(text::part(d, at, d.len())).0;
     let begin = domain::find_last(d, Labels(n + 1)).0;
     Ending::Done(Organization {
         begin,

@@ -3,7 +3,7 @@ use mathlib.Core.Path.{sym}
 use native.Mathlib.Nat.{le-of-lt}
 use lib.ListN.{drop-of-length-le}
 use borrow.Author.Needs.{needs}
-use Rattle.text.proofs.PartLaws.{rest-of}
+use Rattle.octets.proofs.LentLaws.{rest-of}
 use Rattle.text.proofs.skip.Statement.{statement}
 use Rattle.text.proofs.skip.Tie as tie
 
@@ -29,7 +29,7 @@ part-result-end-2 : tie.Need-part-result-end-2
 part-result-end-2 c = search needs
 
 returns-2 : tie.Need-returns-2
-returns-2 c = rest-of (c .before .before .args .n) (c .before .before .args .s .now)
+returns-2 c = rest-of (c .before .before .args .s .now) (c .before .before .args .n)
 
 pub skip-spec : {M : Type 1} → statement M
 skip-spec =

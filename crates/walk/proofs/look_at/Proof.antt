@@ -3,8 +3,9 @@ use mathlib.Core.Path.{sym, _∙_}
 use borrow.Author.Needs.{needs}
 use borrow.Author.Tests.{not-true, not-false}
 use lib.ListN.{drop}
+use Rattle.text.proofs.PartLaws.{part-rest}
 use Rattle.walk.specs.Kept.{known}
-use Rattle.walk.proofs.KeptLaws.{part-rest, looked-asked, looked-long}
+use Rattle.walk.proofs.KeptLaws.{looked-asked, looked-long}
 use Rattle.walk.proofs.look_at.Statement.{statement}
 use Rattle.walk.proofs.look_at.Tie as tie
 

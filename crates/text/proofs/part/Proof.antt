@@ -1,8 +1,8 @@
--- `walk::part` meets its contract.
+-- `text::part` meets its contract.
 use borrow.Author.Needs.{needs}
-use Rattle.walk.proofs.KeptLaws.{clipped-part}
-use Rattle.walk.proofs.part.Statement.{statement}
-use Rattle.walk.proofs.part.Tie as tie
+use Rattle.text.proofs.PartLaws.{clipped-part}
+use Rattle.text.proofs.part.Statement.{statement}
+use Rattle.text.proofs.part.Tie as tie
 
 smaller-requires : tie.Need-smaller-requires
 smaller-requires c κs = search needs
