@@ -18,6 +18,7 @@ mod fields;
 mod names;
 mod policies;
 
+use std::borrow::Cow;
 use std::fmt::Write;
 
 use crate::book::Book;
@@ -27,8 +28,6 @@ use crate::report::{self, FileName};
 use crate::start::{GivenIdentifier, GivenMessage};
 use crate::txt::{self, Answer, Reply, Status};
 
-/// The longest policy text among the cases.
-const LONGEST_TEXT: usize = 5_200;
 /// What lent memory is filled with.
 const FILL: u8 = 255;
 /// The modulus of the sums over lent memory.
@@ -101,10 +100,7 @@ impl FieldCase {
 
 /// All cases: policy texts, answers, file names, fields.
 pub fn cases() -> Vec<Case> {
-    let policies = policies::texts().into_iter();
-    let policies = policies
-        .filter(|text| text.len() <= LONGEST_TEXT)
-        .map(Case::Policy);
+    let policies = policies::texts().into_iter().map(Case::Policy);
     let answers = answers::answers().into_iter().map(Case::Answer);
     let names = names::names().into_iter().map(Case::FileName);
     let fields = fields::fields().into_iter();
@@ -205,8 +201,8 @@ fn policy_line(text: &[u8]) -> String {
         Some(settings) => settings_words(&settings),
         None => "none".to_string(),
     };
-    let (begin, length) = policy::rua_part(text);
-    format!("policy {words} rua={begin}+{length}")
+    let rua = policy::rua_text(text);
+    format!("policy {words} rua={}:{}", rua.len(), ascii(rua))
 }
 
 fn answer_line(given: &AnswerCase) -> String {
@@ -235,8 +231,7 @@ fn name_line(given: &NameCase) -> String {
     };
     let mut out = vec![FILL; usize::from(given.size)];
     let words = written_words(report::file_name(&parts, &mut out));
-    let text = String::from_utf8_lossy(used(&out));
-    format!("file {words} out={}:{text}", sums(&out))
+    format!("file {words} out={}:{}", sums(&out), ascii(used(&out)))
 }
 
 fn field_line(given: &FieldCase) -> String {
@@ -347,6 +342,11 @@ fn sums(lent: &[u8]) -> String {
         .map(|(number, octet)| number * usize::from(*octet));
     let sum = weighed.fold(0, |sum, more| (sum + more) % MODULUS);
     format!("{}:{sum}", used(lent).len())
+}
+
+/// A text whose octets are all from 32 to 126, as it stands.
+fn ascii(octets: &[u8]) -> Cow<'_, str> {
+    String::from_utf8_lossy(octets)
 }
 
 fn hex(octets: &[u8]) -> String {

@@ -82,7 +82,6 @@ fn sizes() -> Vec<AnswerCase> {
         texts(&[POLICY, POLICY]),
         records(b"TX"),
         records(&text(b"a").repeat(17)),
-        records(&padded(b"", b'X', b"", 4097)),
     ];
     let mut answers = Vec::new();
     for kind in kinds {
@@ -90,22 +89,21 @@ fn sizes() -> Vec<AnswerCase> {
             answers.push(kind.clone().scratch(size));
         }
     }
-    // The examples of 22 and 24.
+    // The examples of 22 and 24, and 24 with an answer that is too long.
     answers.push(texts(&[b"abcde"]).scratch(100));
     answers.push(records(b"TX").scratch(10));
+    answers.push(records(&padded(b"", b'X', b"", 4097)).scratch(4095));
     answers
 }
 
 /// 23: bytes that come with none or error are not read.
 fn unread() -> Vec<AnswerCase> {
-    let junk = [
-        vec![b'X'; 5000],
-        vec![0; 60_000],
-        b"TX".to_vec(),
-        text(b"a").repeat(17),
-        text(POLICY),
+    let junk = [b"TX".to_vec(), text(b"a").repeat(17), text(POLICY)];
+    // The example of 23, and as an error: over the limit of an answer.
+    let mut answers = vec![
+        answer(Status::None, vec![b'X'; 5000]),
+        answer(Status::Error, vec![0; 4097]),
     ];
-    let mut answers = Vec::new();
     for bytes in junk {
         answers.push(answer(Status::None, bytes.clone()));
         answers.push(answer(Status::Error, bytes.clone()));
@@ -143,12 +141,10 @@ fn limits() -> Vec<AnswerCase> {
     let one = text(b"a");
     let policy = text(POLICY);
     vec![
-        // 4,095, 4,096 and 4,097 octets in one record, then far over.
+        // 4,095, 4,096 and 4,097 octets in one record.
         records(&policy_record(4095)),
         records(&policy_record(4096)),
         records(&policy_record(4097)),
-        records(&policy_record(5000)),
-        records(&policy_record(60_000)),
         // 4,096 octets, and the example of 25: 4,097 with texts of 3,990.
         records(&sixteen_records(83)),
         records(&sixteen_records(84)),
@@ -159,7 +155,6 @@ fn limits() -> Vec<AnswerCase> {
         records(&one.repeat(18)),
         records(&one.repeat(32)),
         records(&one.repeat(40)),
-        records(&one.repeat(585)),
         records(&strings(&[b""]).repeat(16)),
         records(&strings(&[b""]).repeat(17)),
         // The single policy record first, in the middle, last, one too far.
@@ -275,7 +270,7 @@ fn replies() -> Vec<AnswerCase> {
         records(&strings(&single)),
         // A record longer than 255 octets.
         texts(&[&long]),
-        texts(&[&padded(b"v", b' ', b"=DMARC1; p=quarantine", 1000)]),
+        texts(&[&padded(b"v", b' ', b"=DMARC1; p=quarantine", 600)]),
         texts(&[b"junk", &long, b"v=spf1 -all"]),
         // Records are not joined.
         texts(&[b"v=DMA", b"RC1; p=none"]),

@@ -288,38 +288,41 @@ const TEXTS: &[&[u8]] = &[
     b"v=DMARC1; p=none; ;; ",
 ];
 
-/// 44: texts of any length. An octet is repeated in the middle.
+/// More octets than an octet counts.
+const LONG: usize = 260;
+
+/// 44: texts of any length, one of them longer than an answer may be. An octet
+/// is repeated in the middle.
 fn long() -> Vec<Vec<u8>> {
     vec![
-        padded(b"v=DMARC1; x=", b'z', b"; p=none; rua=mailto:r@e.com", 5000),
-        padded(b"v=DMARC1; p=none; x=", b'z', b"", 5000),
-        padded(b"v=DMARC1; ", b'x', b"=y; p=none", 5000),
-        padded(b"v=DMARC1; ", b'p', b"=none", 5000),
-        padded(b"v", b' ', b"=DMARC1; p=reject", 5000),
-        padded(b"v=", b'\t', b"DMARC1; p=reject", 5000),
-        padded(b"v=DMARC1", b' ', b"; p=reject", 5000),
-        padded(b"v=DMARC1", b' ', b"x; p=reject", 5000),
-        padded(b"v=DMARC1", b';', b"p=quarantine", 5000),
-        padded(b"v=DMARC1; p=", b' ', b"none", 5000),
-        padded(b"v=DMARC1; p=none", b' ', b"", 5000),
-        padded(b"v=DMARC1; p=none", b' ', b"x", 5000),
-        padded(b"v=DMARC1; rua=", b',', b"a:b", 5000),
-        padded(b"v=DMARC1; rua=", b'a', b":b", 5000),
-        padded(b"v=DMARC1; rua=a:", b'b', b"", 5000),
-        padded(b"v=DMARC1; rua=a:", b'b', b"!", 5000),
-        padded(b"v=DMARC1; rua=a:", b'%', b"41", 5000),
-        padded(b"", b';', b"", 5000),
-        padded(b"", b'v', b"", 5000),
-        padded(b"v=DMARC1; p=none; x=", b'z', b"; t=y", 65_535),
+        padded(b"v=DMARC1; x=", b'z', b"; p=none; rua=mailto:r@e.com", 4200),
+        padded(b"v=DMARC1; p=none; x=", b'z', b"", LONG),
+        padded(b"v=DMARC1; ", b'x', b"=y; p=none", LONG),
+        padded(b"v=DMARC1; ", b'p', b"=none", LONG),
+        padded(b"v", b' ', b"=DMARC1; p=reject", LONG),
+        padded(b"v=", b'\t', b"DMARC1; p=reject", LONG),
+        padded(b"v=DMARC1", b' ', b"; p=reject", LONG),
+        padded(b"v=DMARC1", b' ', b"x; p=reject", LONG),
+        padded(b"v=DMARC1", b';', b"p=quarantine", LONG),
+        padded(b"v=DMARC1; p=", b' ', b"none", LONG),
+        padded(b"v=DMARC1; p=none", b' ', b"", LONG),
+        padded(b"v=DMARC1; p=none", b' ', b"x", LONG),
+        padded(b"v=DMARC1; rua=", b',', b"a:b", LONG),
+        padded(b"v=DMARC1; rua=", b'a', b":b", LONG),
+        padded(b"v=DMARC1; rua=a:", b'b', b"", LONG),
+        padded(b"v=DMARC1; rua=a:", b'b', b"!", LONG),
+        padded(b"v=DMARC1; rua=a:", b'%', b"41", LONG),
+        padded(b"", b';', b"", LONG),
+        padded(b"", b'v', b"", LONG),
         [
             b"v=DMARC1".to_vec(),
-            b"; p=\x80; rua=;".repeat(300),
+            b"; p=\x80; rua=;".repeat(21),
             b"rua=x".to_vec(),
         ]
         .concat(),
         [
             b"v=DMARC1; rua=".to_vec(),
-            b"a:%4,".repeat(900),
+            b"a:%4,".repeat(50),
             b"a:%41".to_vec(),
         ]
         .concat(),
@@ -340,7 +343,7 @@ fn every_octet() -> Vec<Vec<u8>> {
         [b"v=DMARC1; x=".as_slice(), &all, b"; p=none"].concat(),
         [b"v=DMARC1; rua=".as_slice(), &all, b"; rua=a:b"].concat(),
         [b"v=DMARC1; p=none; rua=".as_slice(), &printable].concat(),
-        [b"v=DMARC1; ".as_slice(), &all.repeat(20), b"; sp=none"].concat(),
+        [b"v=DMARC1; ".as_slice(), &all, b"; sp=none"].concat(),
     ]
 }
 

@@ -43,91 +43,91 @@ fn answer(status: u8, scratch: u16, bytes: &[u8]) -> Vec<u8> {
 fn policy_texts() {
     let table: [(&[u8], &str); 21] = [
         // 35
-        (b" v=DMARC1", "none rua=0+0"),
-        (b"v=DMARC1\r\n", "none rua=0+0"),
+        (b" v=DMARC1", "none rua=0:"),
+        (b"v=DMARC1\r\n", "none rua=0:"),
         (
             b"V = DMARC1 ",
-            "p=absent sp=absent np=absent adkim=r aspf=r psd=u t=n reports=no rua=0+0",
+            "p=absent sp=absent np=absent adkim=r aspf=r psd=u t=n reports=no rua=0:",
         ),
         // 37
         (
             b"v=DMARC1; p=reject; sp=no\tne",
-            "p=reject sp=absent np=absent adkim=r aspf=r psd=u t=n reports=no rua=0+0",
+            "p=reject sp=absent np=absent adkim=r aspf=r psd=u t=n reports=no rua=0:",
         ),
         (
             b"v=DMARC1; p=reject; sp=none\x80",
-            "p=reject sp=absent np=absent adkim=r aspf=r psd=u t=n reports=no rua=0+0",
+            "p=reject sp=absent np=absent adkim=r aspf=r psd=u t=n reports=no rua=0:",
         ),
         (
             b"v=DMARC1; p=reject; sp=none~",
-            "p=reject sp=invalid np=absent adkim=r aspf=r psd=u t=n reports=no rua=0+0",
+            "p=reject sp=invalid np=absent adkim=r aspf=r psd=u t=n reports=no rua=0:",
         ),
         (
             b"v=DMARC1;p=\treject",
-            "p=reject sp=absent np=absent adkim=r aspf=r psd=u t=n reports=no rua=0+0",
+            "p=reject sp=absent np=absent adkim=r aspf=r psd=u t=n reports=no rua=0:",
         ),
         // 38
         (
             b"v=DMARC1; p=reject; sp=",
-            "p=reject sp=absent np=absent adkim=r aspf=r psd=u t=n reports=no rua=0+0",
+            "p=reject sp=absent np=absent adkim=r aspf=r psd=u t=n reports=no rua=0:",
         ),
         // 39
         (
             b"v=DMARC1; p==reject",
-            "p=invalid sp=absent np=absent adkim=r aspf=r psd=u t=n reports=no rua=0+0",
+            "p=invalid sp=absent np=absent adkim=r aspf=r psd=u t=n reports=no rua=0:",
         ),
         // 40
         (
             b"v=DMARC1; sp=; sp=none",
-            "p=absent sp=none np=absent adkim=r aspf=r psd=u t=n reports=no rua=0+0",
+            "p=absent sp=none np=absent adkim=r aspf=r psd=u t=n reports=no rua=0:",
         ),
         (
             b"v=DMARC1; p=often; p=reject",
-            "p=invalid sp=absent np=absent adkim=r aspf=r psd=u t=n reports=no rua=0+0",
+            "p=invalid sp=absent np=absent adkim=r aspf=r psd=u t=n reports=no rua=0:",
         ),
         (
             b"v=DMARC1; P=none; p=reject",
-            "p=none sp=absent np=absent adkim=r aspf=r psd=u t=n reports=no rua=0+0",
+            "p=none sp=absent np=absent adkim=r aspf=r psd=u t=n reports=no rua=0:",
         ),
         // 41
         (
             b"v=DMARC1; v=DMARC2; p=none",
-            "p=none sp=absent np=absent adkim=r aspf=r psd=u t=n reports=no rua=0+0",
+            "p=none sp=absent np=absent adkim=r aspf=r psd=u t=n reports=no rua=0:",
         ),
         // 42
         (
             b"v=DMARC1; adkim=strict; aspf=strict",
-            "p=absent sp=absent np=absent adkim=r aspf=r psd=u t=n reports=no rua=0+0",
+            "p=absent sp=absent np=absent adkim=r aspf=r psd=u t=n reports=no rua=0:",
         ),
         (
             b"v=DMARC1; t=Y",
-            "p=absent sp=absent np=absent adkim=r aspf=r psd=u t=y reports=no rua=0+0",
+            "p=absent sp=absent np=absent adkim=r aspf=r psd=u t=y reports=no rua=0:",
         ),
         // Marked sheets: E, Y and 12.
         (
             b"v=DMARC1; p=reject; sp=quarantine; np=reject; aspf=s",
-            "p=reject sp=quarantine np=reject adkim=r aspf=s psd=u t=n reports=no rua=0+0",
+            "p=reject sp=quarantine np=reject adkim=r aspf=s psd=u t=n reports=no rua=0:",
         ),
         (
             b"v=DMARC1; p=reject; psd=y",
-            "p=reject sp=absent np=absent adkim=r aspf=r psd=y t=n reports=no rua=0+0",
+            "p=reject sp=absent np=absent adkim=r aspf=r psd=y t=n reports=no rua=0:",
         ),
         (
             b"v=DMARC1; p=often; rua=mailto:r@example.com",
-            "p=invalid sp=absent np=absent adkim=r aspf=r psd=u t=n reports=yes rua=23+20",
+            "p=invalid sp=absent np=absent adkim=r aspf=r psd=u t=n reports=yes rua=20:mailto:r@example.com",
         ),
         // 45, 46, 50
         (
             b"v=DMARC1; rua=, ,mailto:r@e.com",
-            "p=absent sp=absent np=absent adkim=r aspf=r psd=u t=n reports=yes rua=14+17",
+            "p=absent sp=absent np=absent adkim=r aspf=r psd=u t=n reports=yes rua=17:, ,mailto:r@e.com",
         ),
         (
             b"v=DMARC1; p=often; rua=mailto:r@example.com!10m",
-            "p=invalid sp=absent np=absent adkim=r aspf=r psd=u t=n reports=no rua=23+24",
+            "p=invalid sp=absent np=absent adkim=r aspf=r psd=u t=n reports=no rua=24:mailto:r@example.com!10m",
         ),
         (
             b"v=DMARC1; p=none; rua=mailto:a;b@c",
-            "p=none sp=absent np=absent adkim=r aspf=r psd=u t=n reports=yes rua=22+8",
+            "p=none sp=absent np=absent adkim=r aspf=r psd=u t=n reports=yes rua=8:mailto:a",
         ),
     ];
     let vectors = vectors();
