@@ -304,3 +304,18 @@ fn refused_calls_leave_lent_memory_unchanged() {
 fn the_same_files_each_time() {
     assert!(files() == files());
 }
+
+/// The program that runs the cases through the proved code has them beside it.
+#[test]
+fn the_stored_files_are_these() {
+    let (octets, text) = files().expect("cases that fit their lengths");
+    let stored = |name: &str| {
+        let path = format!("{}/../crates/vectors/{name}", env!("CARGO_MANIFEST_DIR"));
+        std::fs::read(path).expect("a stored file")
+    };
+    assert!(stored("stdin") == octets, "crates/vectors/stdin");
+    assert!(
+        stored("stdout") == text.into_bytes(),
+        "crates/vectors/stdout"
+    );
+}
