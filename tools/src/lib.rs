@@ -6,6 +6,8 @@
 #![forbid(unsafe_code)]
 
 pub mod book;
+pub mod calls;
+pub mod cases;
 pub mod describe;
 pub mod domain;
 pub mod evaluate;
@@ -18,5 +20,6 @@ pub mod report;
 pub mod sheet;
 pub mod start;
 pub mod tally;
+pub mod timing;
 pub mod txt;
 pub mod vectors;

@@ -8,7 +8,7 @@ use std::process::ExitCode;
 use tools::generate::SheetKind;
 use tools::marked::MARKED;
 use tools::tally::tally;
-use tools::{describe, sheet, vectors};
+use tools::{calls, describe, sheet, timing, vectors};
 
 const USAGE: &str = "usage:
   dmarc-tools run < sheet
@@ -18,6 +18,8 @@ const USAGE: &str = "usage:
   dmarc-tools tally KIND SEED COUNT
   dmarc-tools marked
   dmarc-tools vectors CASES EXPECTED
+  dmarc-tools calls CASES EXPECTED
+  dmarc-tools timing COUNT DIR
 KIND is ordinary or hostile.";
 
 fn main() -> ExitCode {
@@ -31,6 +33,8 @@ fn main() -> ExitCode {
         ["tally", kind, seed, count] => tallied(kind, seed, count),
         ["marked"] => marked(),
         ["vectors", cases, expected] => write_vectors(cases, expected),
+        ["calls", cases, expected] => write_calls(cases, expected),
+        ["timing", count, dir] => write_timing(count, dir),
         _ => Err(USAGE.to_string()),
     };
     match outcome {
@@ -123,6 +127,35 @@ fn write_vectors(cases_path: &str, expected_path: &str) -> Result<(), String> {
     for kind in b"PAFI" {
         let count = cases.iter().filter(|case| case.kind() == *kind).count();
         output(format!("{} {count}\n", char::from(*kind)).as_bytes())?;
+    }
+    Ok(())
+}
+
+/// Writes both files, and prints how many calls of each kind there are.
+fn write_calls(cases_path: &str, expected_path: &str) -> Result<(), String> {
+    let (octets, lines) = calls::files().ok_or("a call is too long for its length")?;
+    fs::write(cases_path, octets).map_err(failed)?;
+    fs::write(expected_path, lines).map_err(failed)?;
+    let calls = calls::calls().unwrap_or_default();
+    for kind in b"SNARF" {
+        let count = calls.iter().filter(|call| call.kind() == *kind).count();
+        output(format!("{} {count}\n", char::from(*kind)).as_bytes())?;
+    }
+    Ok(())
+}
+
+/// Writes a file for each number of identifiers and length of the walks, named
+/// by both.
+fn write_timing(count: &str, dir: &str) -> Result<(), String> {
+    let count = count.parse().map_err(|_| "COUNT is a number of 32 bits")?;
+    fs::create_dir_all(dir).map_err(failed)?;
+    for identifiers in timing::IDENTIFIERS {
+        for walk in timing::WALKS {
+            let octets = timing::file(count, identifiers, walk);
+            let octets = octets.ok_or("a call is too long for its length")?;
+            let file = Path::new(dir).join(format!("{identifiers}x{walk}"));
+            fs::write(file, octets).map_err(failed)?;
+        }
     }
     Ok(())
 }

@@ -19,19 +19,15 @@ mod names;
 mod policies;
 
 use std::borrow::Cow;
-use std::fmt::Write;
 
 use crate::book::Book;
+use crate::cases::{self, hex, push_counted, sums, used, written_words, FILL};
 use crate::policy::{self, Mode, Policy, Psd, Request, Settings};
 use crate::refusal::Refusal;
 use crate::report::{self, FileName};
 use crate::start::{GivenIdentifier, GivenMessage};
 use crate::txt::{self, Answer, Reply, Status};
 
-/// What lent memory is filled with.
-const FILL: u8 = 255;
-/// The modulus of the sums over lent memory.
-const MODULUS: usize = 65_521;
 /// How many octets of the scratch a line shows.
 const SHOWN_SCRATCH: usize = 40;
 
@@ -139,11 +135,7 @@ impl Case {
             Case::FileName(given) => name_body(given)?,
             Case::Field(given) => field_body(given),
         };
-        let length = u16::try_from(body.len()).ok()?;
-        let mut octets = vec![self.kind()];
-        octets.extend(length.to_be_bytes());
-        octets.extend(body);
-        Some(octets)
+        cases::octets(self.kind(), &body)
     }
 
     /// The line that must be printed, without its end.
@@ -158,12 +150,7 @@ impl Case {
 }
 
 fn answer_body(given: &AnswerCase) -> Vec<u8> {
-    let status = match given.status {
-        Status::Records => 0,
-        Status::None => 1,
-        Status::Error => 2,
-    };
-    let mut body = vec![status];
+    let mut body = vec![cases::status_number(given.status)];
     body.extend(given.scratch.to_be_bytes());
     body.extend(&given.bytes);
     body
@@ -179,13 +166,6 @@ fn name_body(given: &NameCase) -> Option<Vec<u8>> {
     push_counted(&mut body, &given.id)?;
     body.extend(given.size.to_be_bytes());
     Some(body)
-}
-
-/// Writes a length octet and the octets.
-fn push_counted(body: &mut Vec<u8>, octets: &[u8]) -> Option<()> {
-    body.push(u8::try_from(octets.len()).ok()?);
-    body.extend(octets);
-    Some(())
 }
 
 fn field_body(given: &FieldCase) -> Vec<u8> {
@@ -274,13 +254,6 @@ fn asking(identifiers: &[GivenIdentifier]) -> Result<Book, Refusal> {
     Ok(book)
 }
 
-fn written_words(written: Result<usize, Refusal>) -> String {
-    match written {
-        Ok(octets) => format!("wrote {octets}"),
-        Err(refusal) => refusal.to_string(),
-    }
-}
-
 fn reply_words(reply: Reply) -> String {
     match reply {
         Reply::Record(settings) => format!("record {}", settings_words(&settings)),
@@ -328,33 +301,9 @@ fn psd_word(psd: Psd) -> &'static str {
     }
 }
 
-/// Lent memory up to and including its last octet that is not 255.
-fn used(lent: &[u8]) -> &[u8] {
-    let last = lent.iter().rposition(|octet| *octet != FILL);
-    last.and_then(|last| lent.get(..=last)).unwrap_or_default()
-}
-
-/// How many octets are used, and the sum over all octets of their number, from
-/// 1, times their value.
-fn sums(lent: &[u8]) -> String {
-    let weighed = (1..)
-        .zip(lent)
-        .map(|(number, octet)| number * usize::from(*octet));
-    let sum = weighed.fold(0, |sum, more| (sum + more) % MODULUS);
-    format!("{}:{sum}", used(lent).len())
-}
-
 /// A text whose octets are all from 32 to 126, as it stands.
 fn ascii(octets: &[u8]) -> Cow<'_, str> {
     String::from_utf8_lossy(octets)
-}
-
-fn hex(octets: &[u8]) -> String {
-    octets.iter().fold(String::new(), |mut text, octet| {
-        // Writing to a string never fails.
-        let _ = write!(text, "{octet:02x}");
-        text
-    })
 }
 
 /// One octet repeated between two texts, so many octets in all.

@@ -3,6 +3,7 @@ ghost use mathlib.Core.Path.{_≡_};
 ghost use Prim.Native.Nat.{min};
 ghost use mathlib.Core.List.{[]};
 ghost use lib.ListN.{length, drop, getD};
+ghost use Rattle.octets.specs.Octets.{same-text};
 ghost use Rattle.octets.specs.Lent.{Writes};
 ghost use Rattle.domain.specs.Domain.{good-label, is-domain, label-count, last-labels, targets, can-ask, asked-name};
 ghost use Rattle.domain.specs.Places.{checked, begin-of, index};
@@ -163,4 +164,18 @@ pub fn write_name(s: &[u8], at: Octet, out: &mut [u8]) -> Written
     }
     let next = octets::append(b"_dmarc.", 0, out);
     Written::Wrote(octets::append_lower(&s[from..], next, out))
+}
+
+// Whether a name is the asked name of the target that begins at a place, in either case.
+pub fn is_name<'a>(name: &'a [u8], s: &'a [u8], at: Octet) -> bool
+    ensures { λ r. ⌜ r ≡ same-text (now (name .entry)) (asked-name (drop (at .0) (now (s .entry)))) ⌝ }
+{
+    if name.len() < 7 {
+        return false;
+    }
+    if !octets::same_text(text::part(name, 0, 7), b"_dmarc.") {
+        return false;
+    }
+    let rest = text::part(name, 7, name.len());
+    octets::same_text(rest, text::part(s, at.0, s.len()))
 }

@@ -11,7 +11,7 @@ use borrow.Author.Tests.{not-true}
 use Rattle.octets.specs.Octets.{Octets, octets, is-empty, same, is-letter, lower, same-text, front}
 use Rattle.octets.proofs.TextLaws.{and-left, and-right, T→true, same→eq}
 use Rattle.policy.specs.declared.Policy.{Policy}
-use Rattle.policy.specs.InForce.{step-down}
+use Rattle.policy.specs.Tables.{step-down}
 use Rattle.policy.specs.Tables.{policy-number, policy-of, tag-names, tag-name}
 
 -- ------------------------------------------------------------------ any table

@@ -2,6 +2,5 @@
 pub mod Tags
 pub mod Reports
 pub mod Records
-pub mod InForce
 pub mod Tables
 pub mod Values

@@ -1,5 +1,4 @@
 // A policy record's text: its tags, its settings, and its report addresses.
-mod force;
 mod reports;
 mod tables;
 mod tags;
@@ -10,10 +9,6 @@ ghost use lib.ListN.{take, drop};
 ghost use Rattle.octets.specs.Octets.{split};
 ghost use Rattle.policy.specs.Records.{word, mode-words, psd-words, testing-words, read-policy, rua-begin, rua-length};
 ghost use Rattle.policy.specs.Values.{first-value, policy-setting, settings-from};
-pub use force::existing_policy;
-pub use force::in_force;
-pub use force::missing_policy;
-pub use force::own_policy;
 pub use tables::step_down;
 
 // What a domain owner asks for.
@@ -60,12 +55,6 @@ pub struct Settings {
 pub enum Reading {
     Record(Settings),
     NoRecord,
-}
-
-// The settings of a record that are in force.
-pub enum InForce {
-    Usable(Settings),
-    NotUsable,
 }
 
 // What a text is.

@@ -4,7 +4,7 @@ use text::Class;
 ghost use mathlib.Core.Path.{_≡_};
 ghost use Prim.Native.Nat.{_<_};
 ghost use Rattle.octets.specs.Octets.{is-letter, same, lower, same-text, front};
-ghost use Rattle.policy.specs.InForce.{step-down};
+ghost use Rattle.policy.specs.Tables.{step-down};
 ghost use Rattle.policy.specs.Tables.{policy-number, policy-word, tag-name};
 
 // By the policy's number.

@@ -1,10 +1,7 @@
 // Reporting: the report file name, and the Identity-Alignment field.
 ghost use mathlib.Core.Path.{_≡_};
-ghost use mathlib.Core.Bool.{_&&_};
 ghost use Prim.Native.Nat.{_+_, _≤_};
-ghost use lib.Dec.{leb};
 ghost use lib.ListN.{length};
-ghost use Rattle.octets.specs.Decimal.{decimal};
 ghost use Rattle.octets.specs.Lent.{Writes, WritesOr, Appends};
 ghost use Rattle.octets.specs.Refusing.{refusal};
 ghost use Rattle.reporting.specs.FileName.{given-id, good-id-if-any, good-report, domains-part, times-part, end-part, file-name-text, file-name};

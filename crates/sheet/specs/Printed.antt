@@ -12,7 +12,7 @@ use Rattle.verdict.specs.declared.Result.{Result}
 use Rattle.verdict.specs.declared.AppliedPolicy.{AppliedPolicy}
 use Rattle.verdict.specs.declared.Disposition.{Disposition}
 use Rattle.verdict.specs.Verdict.{Verdict, separate-walks}
-use Rattle.evaluation.specs.Start.{started}
+use Rattle.book.specs.Start.{started}
 use Rattle.sheet.specs.Sheet.{entries, message-in, answer-at}
 
 unfoldable pub result-word : Result → Octets

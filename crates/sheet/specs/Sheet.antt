@@ -11,7 +11,7 @@ use Rattle.lookup.specs.Lookup.{Name}
 use Rattle.domain.specs.Domain.{is-domain}
 use Rattle.txt.specs.declared.Status.{Status}
 use Rattle.txt.specs.Answers.{Answer, lookup-error, answer-of}
-use Rattle.evaluation.specs.Start.{GivenIdentifier, GivenMessage}
+use Rattle.book.specs.Start.{GivenIdentifier, GivenMessage}
 
 -- ------------------------------------------------------------------ one record
 

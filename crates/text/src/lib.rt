@@ -67,7 +67,7 @@ pub fn is_digit(b: u8) -> bool
 }
 
 // Whether an octet is space or tab.
-pub fn is_blank(b: u8) -> bool
+fn is_blank(b: u8) -> bool
     ensures { λ r. ⌜ r ≡ is-blank b ⌝ }
 {
     if b == 32 {
@@ -77,7 +77,7 @@ pub fn is_blank(b: u8) -> bool
 }
 
 // Whether an octet is in a class.
-pub fn is_in(b: u8, class: Class) -> bool
+fn is_in(b: u8, class: Class) -> bool
     ensures { λ r. ⌜ r ≡ in-class class b ⌝ }
 {
     match class {

@@ -1,25 +1,10 @@
 // Runs the test vectors of standard input through the proved code, and prints a line for each case.
-mod bodies;
-mod lines;
-
-ghost use mathlib.Core.Path.{_≡_};
-ghost use lib.ListN.{length};
-use libc::STDIN_FILENO;
+use cases::bodies;
+use cases::input;
+use cases::input::Case;
+use cases::lines;
 use reporting::Method;
 use txt::Status;
-
-// Memory to lend, as each case has it before its call. A size of 16 bits fits in it.
-fn fresh_memory() -> [u8; 65536]
-    ensures { λ r. ⌜ 65536 ≡ length r ⌝ }
-{
-    [255; 65536]
-}
-
-// Says that a case cannot be read. The program does not go on then.
-fn refuse_case() -> bool {
-    lines::print(b"bad case\n");
-    false
-}
 
 // A policy text: what it is, and its rua text.
 fn run_policy(body: &[u8]) -> bool {
@@ -28,15 +13,6 @@ fn run_policy(body: &[u8]) -> bool {
     lines::print(b" rua=");
     lines::print_text(policy::rua(body));
     true
-}
-
-// The status of its number: 0 records, 1 none, else error.
-fn status_of(number: usize) -> Status {
-    match number {
-        0 => Status::Records,
-        1 => Status::NoRecords,
-        _ => Status::Error,
-    }
 }
 
 // Takes an answer, and prints what it says and what lies in the scratch.
@@ -52,13 +28,17 @@ fn run_answer(body: &[u8], memory: &mut [u8]) -> bool {
     let status = bodies::octet_at(body, 0);
     let size = bodies::pair_at(body, 1);
     if body.len() < 3 {
-        return refuse_case();
+        return lines::refuse_case();
     }
     if 2 < status {
-        return refuse_case();
+        return lines::refuse_case();
     }
     let room = text::smaller(size, memory.len());
-    take_answer(status_of(status), text::skip(body, 3), &mut memory[0..room]);
+    take_answer(
+        bodies::status_of(status),
+        text::skip(body, 3),
+        &mut memory[0..room],
+    );
     true
 }
 
@@ -86,7 +66,7 @@ fn run_name(body: &[u8], memory: &mut [u8]) -> bool {
     let times = policy + 1 + bodies::octet_at(body, policy);
     let size = times + 18 + bodies::octet_at(body, times + 17);
     if body.len() != size + 2 {
-        return refuse_case();
+        return lines::refuse_case();
     }
     let room = text::smaller(bodies::pair_at(body, size), memory.len());
     write_name(
@@ -117,7 +97,7 @@ fn write_field(dkim: Method, spf: Method, out: &mut [u8]) {
 // A field: dkim, spf, output size of an octet.
 fn run_field(body: &[u8], memory: &mut [u8]) -> bool {
     if body.len() != 5 {
-        return refuse_case();
+        return lines::refuse_case();
     }
     let room = text::smaller(bodies::octet_at(body, 4), memory.len());
     let spf = text::skip(body, 2);
@@ -132,35 +112,21 @@ fn run_case(kind: u8, body: &[u8], memory: &mut [u8]) -> bool {
         b'A' => run_answer(body, memory),
         b'F' => run_name(body, memory),
         b'I' => run_field(body, memory),
-        _ => refuse_case(),
+        _ => lines::refuse_case(),
     }
 }
 
-// Reads a body of this size into memory. Whether it is there whole.
-fn read_body(size: usize, memory: &mut [u8]) -> bool {
-    if memory.len() < size {
-        return false;
-    }
-    io::read_full(STDIN_FILENO, &mut memory[0..size]) == size
-}
-
-// Reads a case, one octet kind, a 16-bit length (high octet first) and a body, and runs it. Whether to go on.
+// Reads a case and runs it. Whether to go on.
 fn take_turn() -> bool {
-    let mut head = [0u8; 3];
-    let got = io::read_full(STDIN_FILENO, &mut head);
-    if got == 0 {
-        return false;
+    let mut memory = io::large_buffer();
+    match input::read_case(&mut memory) {
+        Case::End => false,
+        Case::Broken => lines::refuse_case(),
+        Case::Whole { kind, size } => {
+            let mut lent = input::fresh_memory();
+            run_case(kind, text::part(&memory, 0, size), &mut lent)
+        }
     }
-    if got < 3 {
-        return refuse_case();
-    }
-    let size = bodies::pair_at(&head, 1);
-    let mut input = io::large_buffer();
-    if !read_body(size, &mut input) {
-        return refuse_case();
-    }
-    let mut memory = fresh_memory();
-    run_case(head[0], text::part(&input, 0, size), &mut memory)
 }
 
 // Nothing says that the input ends, so the turns are counted down from a number that no run uses up.

@@ -8,8 +8,6 @@ ghost use Rattle.lookup.specs.Lookup.{has, run};
 ghost use Rattle.domain.specs.Domain.{Domain, asked-name};
 ghost use Rattle.walk.specs.Walk.{record-at, found};
 ghost use Rattle.walk.specs.Kept.{known, looked, looked-standing};
-ghost use Rattle.walk.specs.Kept.{setting-code, mode-code, psd-code, flag-code, settings-code, reply-code};
-ghost use Rattle.walk.specs.Kept.{setting-of, mode-of-code, psd-of, settings-of, reply-of};
 ghost use Rattle.walk.specs.Summary.{summarized, or-else, found-in, ending-standing};
 ghost use Rattle.walk.specs.Turns.{if-at, last-summary, suffix-summary, Judges, Visits};
 use domain::Labels;
@@ -52,144 +50,6 @@ enum Turn {
     On(Applicable),
 }
 
-// The setting of p, sp or np, as a digit.
-fn encode_setting(x: Setting) -> usize
-    ensures { λ n. ⌜ (n ≡ setting-code x) × (n < 5) ⌝ }
-{
-    match x {
-        Setting::Absent => 0,
-        Setting::Invalid => 1,
-        Setting::Set(p) => match p {
-            Policy::None => 2,
-            Policy::Quarantine => 3,
-            Policy::Reject => 4,
-        },
-    }
-}
-
-// The mode of adkim or aspf, as a digit.
-fn encode_mode(x: Mode) -> usize
-    ensures { λ n. ⌜ (n ≡ mode-code x) × (n < 2) ⌝ }
-{
-    match x {
-        Mode::Relaxed => 0,
-        Mode::Strict => 1,
-    }
-}
-
-// The setting of psd, as a digit.
-fn encode_psd(x: Psd) -> usize
-    ensures { λ n. ⌜ (n ≡ psd-code x) × (n < 3) ⌝ }
-{
-    match x {
-        Psd::Unset => 0,
-        Psd::Yes => 1,
-        Psd::No => 2,
-    }
-}
-
-// A flag, as a digit.
-fn encode_flag(x: bool) -> usize
-    ensures { λ n. ⌜ (n ≡ flag-code x) × (n < 2) ⌝ }
-{
-    if x {
-        return 1;
-    }
-    0
-}
-
-// What a record sets, as digits of mixed base.
-fn encode_settings(s: Settings) -> usize
-    ensures { λ n. ⌜ (n ≡ settings-code s) × (n < 6000) ⌝ }
-{
-    let p = s.p;
-    let sp = s.sp;
-    let np = s.np;
-    let adkim = s.adkim;
-    let aspf = s.aspf;
-    let psd = s.psd;
-    encode_setting(p)
-        + 5 * encode_setting(sp)
-        + 25 * encode_setting(np)
-        + 125 * encode_mode(adkim)
-        + 250 * encode_mode(aspf)
-        + 500 * encode_psd(psd)
-        + 1500 * encode_flag(s.t)
-        + 3000 * encode_flag(s.reports)
-}
-
-// A reply as a number, to keep.
-pub fn encode(r: Reply) -> usize
-    ensures { λ n. ⌜ n ≡ reply-code r ⌝ }
-{
-    match r {
-        Reply::Error => 0,
-        Reply::NoRecord => 1,
-        Reply::Record(s) => 2 + encode_settings(s),
-    }
-}
-
-// The setting of p, sp or np, of its digit.
-fn decode_setting(n: usize) -> Setting
-    ensures { λ r. ⌜ r ≡ setting-of n ⌝ }
-{
-    match n {
-        0 => Setting::Absent,
-        1 => Setting::Invalid,
-        2 => Setting::Set(Policy::None),
-        3 => Setting::Set(Policy::Quarantine),
-        _ => Setting::Set(Policy::Reject),
-    }
-}
-
-// The mode of adkim or aspf, of its digit.
-fn decode_mode(n: usize) -> Mode
-    ensures { λ r. ⌜ r ≡ mode-of-code n ⌝ }
-{
-    match n {
-        0 => Mode::Relaxed,
-        _ => Mode::Strict,
-    }
-}
-
-// The setting of psd, of its digit.
-fn decode_psd(n: usize) -> Psd
-    ensures { λ r. ⌜ r ≡ psd-of n ⌝ }
-{
-    match n {
-        0 => Psd::Unset,
-        1 => Psd::Yes,
-        _ => Psd::No,
-    }
-}
-
-// What a record sets, of its digits.
-fn decode_settings(n: usize) -> Settings
-    ensures { λ r. ⌜ r ≡ settings-of n ⌝ }
-{
-    Settings {
-        p: decode_setting(n % 5),
-        sp: decode_setting(n / 5 % 5),
-        np: decode_setting(n / 25 % 5),
-        adkim: decode_mode(n / 125 % 2),
-        aspf: decode_mode(n / 250 % 2),
-        psd: decode_psd(n / 500 % 3),
-        t: n / 1500 % 2 != 0,
-        reports: n / 3000 % 2 != 0,
-    }
-}
-
-// A kept reply.
-pub fn decode(code: usize) -> Reply
-    ensures { λ r. ⌜ r ≡ reply-of code ⌝ }
-{
-    match code {
-        0 => Reply::Error,
-        1 => Reply::NoRecord,
-        _ => Reply::Record(decode_settings(code - 2)),
-    }
-}
-
 // What the kept answers say of a target.
 pub fn look_up<'a>(domains: &'a [u8], kept: &'a [usize], count: usize, target: &'a [u8]) -> Looked
     ensures { λ r. ⌜ r ≡ looked (known (now (domains .entry)) count (now (kept .entry)) (asked-name (now (target .entry)))) ⌝ }
@@ -201,7 +61,7 @@ pub fn look_up<'a>(domains: &'a [u8], kept: &'a [usize], count: usize, target: &
             return Looked::Missing;
         }
         if octets::same_text(target, text::part(domains, kept[at], kept[at + 1])) {
-            return Looked::Known(decode(kept[at + 2]));
+            return Looked::Known(replies::decode(kept[at + 2]));
         }
         at = at + 3;
         more = more - 1;

@@ -2,7 +2,7 @@
 use mathlib.Core.List.{[], _∷_}
 use borrow.Author.Needs.{needs}
 use Rattle.policy.specs.declared.Policy.the-variants.{None, Quarantine}
-use Rattle.policy.specs.InForce.{step-down}
+use Rattle.policy.specs.Tables.{step-down}
 use Rattle.policy.specs.Tables.{policy-number, policy-of}
 use Rattle.policy.proofs.TableLaws.{number-fits, steps}
 use Rattle.policy.proofs.tables.step_down.Statement.{statement}

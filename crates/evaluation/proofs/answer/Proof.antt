@@ -1,0 +1,96 @@
+-- `evaluation::answer` meets its contract.
+use borrow.Author.Needs.{needs}
+use native.Mathlib.Omega.{arith}
+use mathlib.Core.Path.{sym, _∙_, _≡_}
+use lib.ListN.{length-map, length}
+use borrow.Author.Tests.{not-true, not-false}
+use Rattle.evaluation.proofs.CallLaws.{answer-not-now, answer-too-many, answer-refused, answer-accepted}
+use Rattle.evaluation.proofs.answer.Statement.{statement}
+use Rattle.evaluation.proofs.answer.Tie as tie
+
+is-asked-requires : tie.Need-is-asked-requires
+is-asked-requires c κs = search needs
+
+refuse-requires : tie.Need-refuse-requires
+refuse-requires c κs = search needs
+
+refuse-answer-requires : tie.Need-refuse-answer-requires
+refuse-answer-requires c κs = search needs
+
+returns : tie.Need-returns
+returns c =
+    let a = c .before .before .before .before .before .before .before .args in
+    rw (c .refuse-answer .ensures, c .before .refuse .ensures) (answer-not-now (a .e) (a .name .now) (a .status) (a .bytes .now) (a .scratch .now) (sym (c .before .before .before .is-asked .ensures) ∙ not-true _ (c .before .before .if1 .taken)))
+
+refuse-requires-2 : tie.Need-refuse-requires-2
+refuse-requires-2 c κs = search needs
+
+refuse-answer-requires-2 : tie.Need-refuse-answer-requires-2
+refuse-answer-requires-2 c κs = search needs
+
+returns-2 : tie.Need-returns-2
+returns-2 c =
+    let k = c .before .before .before .before .before .before .before .before .before in
+    let a = k .args in
+    let full : length (a .e .kept) ≡ 408 = omega (arith, simp length-map at (k .good .0 .1 .1 .1 .1 .1 .1 .0 .1 .0 .1)) in
+    rw (c .refuse-answer2 .ensures, c .before .refuse2 .ensures) (answer-too-many (a .e) (a .name .now) (a .status) (a .bytes .now) (a .scratch .now) full (c .before .before .if2 .taken))
+
+take-answer-requires : tie.Need-take-answer-requires
+take-answer-requires c κs = search needs
+
+enum-known-f : tie.Need-enum-known-f
+enum-known-f c = search needs
+
+refuse-answer-requires-3 : tie.Need-refuse-answer-requires-3
+refuse-answer-requires-3 c κs = search needs
+
+enum-known-r : tie.Need-enum-known-r
+enum-known-r c = search needs
+
+keep-requires : tie.Need-keep-requires
+keep-requires c κs = search needs
+
+same-length : tie.Need-same-length
+same-length c = search needs
+
+returns-3 : tie.Need-returns-3
+returns-3 c =
+    let b = c .before .before .before .before .before .before .before .before in
+    let k = b .before .before .before .before .before .before .before in
+    let a = k .args in
+    let full : length (a .e .kept) ≡ 408 = omega (arith, simp length-map at (k .good .0 .1 .1 .1 .1 .1 .1 .0 .1 .0 .1)) in
+    let asked = sym (b .before .before .before .is-asked .ensures) ∙ not-false _ (b .before .before .if1 .left) in
+    rw (c .refuse-answer3 .ensures) (answer-refused (a .e) (a .name .now) (a .status) (a .bytes .now) (a .scratch .now) full asked (b .if2 .left) _ (c .before .before .f .given .0 .0) (rw (c .before .before .f .given .1) at (c .before .before .before .before .before .before .take-answer .ensures)))
+
+same-length-2 : tie.Need-same-length-2
+same-length-2 c = search needs
+
+returns-4 : tie.Need-returns-4
+returns-4 c =
+    let b = c .before .before .before .before .before .before .before .before in
+    let k = b .before .before .before .before .before .before .before in
+    let a = k .args in
+    let full : length (a .e .kept) ≡ 408 = omega (arith, simp length-map at (k .good .0 .1 .1 .1 .1 .1 .1 .0 .1 .0 .1)) in
+    let asked = sym (b .before .before .before .is-asked .ensures) ∙ not-false _ (b .before .before .if1 .left) in
+    answer-accepted (a .e) (a .name .now) (a .status) (a .bytes .now) (a .scratch .now) full asked (b .if2 .left) _ (c .before .before .r .given .0 .0) (rw (c .before .before .r .given .1) at (c .before .before .before .before .before .before .take-answer .ensures)) (c .keep .result) (c .keep .ensures)
+
+pub answer-spec : {M : Type 1} → statement M
+answer-spec =
+    tie.close
+    (tie.spec
+    is-asked-requires
+    refuse-requires
+    refuse-answer-requires
+    returns
+    refuse-requires-2
+    refuse-answer-requires-2
+    returns-2
+    take-answer-requires
+    enum-known-f
+    refuse-answer-requires-3
+    enum-known-r
+    keep-requires
+    same-length
+    returns-3
+    same-length-2
+    returns-4)

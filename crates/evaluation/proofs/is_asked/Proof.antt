@@ -1,0 +1,24 @@
+-- `evaluation::is_asked` meets its contract.
+use borrow.Author.Needs.{needs}
+use mathlib.Core.Path.{_∙_}
+use borrow.Author.Tests.{not-true, not-false}
+use Rattle.evaluation.specs.View.{view, marked, asked-in, is-asked}
+use Rattle.evaluation.proofs.is_asked.Statement.{statement}
+use Rattle.evaluation.proofs.is_asked.Tie as tie
+
+returns : tie.Need-returns
+unfolding view asked-in is-asked
+returns c = rw (not-true (c .before .before .args .t1 .asked) (c .if1 .taken))
+
+slot-requires : tie.Need-slot-requires
+slot-requires c κs = search needs
+
+is-name-requires : tie.Need-is-name-requires
+is-name-requires c κs = search needs
+
+returns-2 : tie.Need-returns-2
+unfolding view marked asked-in is-asked
+returns-2 c = c .is-name .ensures ∙ rw (c .before .slot .ensures, not-false (c .before .before .before .before .before .before .before .before .before .args .t1 .asked) (c .before .before .before .before .before .before .before .if1 .left))
+
+pub is-asked-spec : {M : Type 1} → statement M
+is-asked-spec = tie.close (tie.spec returns slot-requires is-name-requires returns-2)

@@ -1,0 +1,13 @@
+-- `evaluation::starting::refused` meets its contract.
+use borrow.Author.Needs.{needs}
+use Rattle.evaluation.proofs.starting.refused.Statement.{statement}
+use Rattle.evaluation.proofs.starting.refused.Tie as tie
+
+refuse-requires : tie.Need-refuse-requires
+refuse-requires c κs = search needs
+
+returns : tie.Need-returns
+returns c = rw (c .refuse .ensures)
+
+pub refused-spec : {M : Type 1} → statement M
+refused-spec = tie.close (tie.spec refuse-requires returns)

@@ -1,0 +1,3 @@
+-- Laws of the settings in force.
+pub mod Computing
+pub mod ForceLaws

@@ -1,0 +1,2 @@
+-- Laws of kept replies.
+pub mod CodeLaws
