@@ -4,6 +4,7 @@ mod starting;
 ghost use mathlib.Core.Path.{_≡_};
 ghost use mathlib.Core.List.{[]};
 ghost use mathlib.Core.Bool.{false, _||_};
+ghost use mathlib.Core.Option.{none};
 ghost use Prim.Native.Nat.{_<_, _≤_, _+_};
 ghost use lib.ListN.{length, drop};
 ghost use Rattle.octets.specs.Octets.{Octets, lower};
@@ -90,9 +91,9 @@ struct Methods {
     spf: Method,
 }
 
-// An evaluation in which nothing was started.
+// An evaluation in which nothing was started and no name is asked.
 pub fn empty() -> Evaluation
-    ensures { λ r. ⌜ view r .started ≡ false ⌝ }
+    ensures { λ r. ⌜ (view r .started ≡ false) × (view r .asked ≡ none) ⌝ }
 {
     Evaluation {
         started: false,
