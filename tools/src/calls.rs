@@ -5,7 +5,7 @@
 //! Lent memory comes filled with octet 255.
 //!
 //! - `S`, a start: existence, support, author after a length octet, then the
-//!   identifiers packed as `start::unpacked` takes them.
+//!   identifiers as records of a sheet, packed as `start::unpacked` takes them.
 //! - `N`, the next step, and `R`, the result: no body.
 //! - `A`, an answer: status (0 records, 1 none, 2 error), 16-bit scratch size,
 //!   name after a length octet, the answer's bytes.

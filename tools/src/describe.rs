@@ -13,6 +13,7 @@
 //! sheet hex 4155
 //! ```
 
+use crate::domain;
 use crate::sheet::{self, push_record, GivenAnswer, Sheet};
 use crate::start::GivenIdentifier;
 use crate::txt::{self, Status};
@@ -111,7 +112,8 @@ fn cut(text: &[u8]) -> Vec<&[u8]> {
     text.chunks(MOST_STRING_OCTETS).collect()
 }
 
-fn quoted(text: &[u8]) -> String {
+/// A text between quotes, with escapes where they are needed.
+pub fn quoted(text: &[u8]) -> String {
     let mut out = String::from("\"");
     for octet in text {
         match octet {
@@ -143,6 +145,8 @@ enum Token {
     Word(Vec<u8>),
     Quoted(Vec<u8>),
 }
+
+const ITEMS: &str = "a line begins with author, spf, dkim, id, answer or sheet";
 
 /// A sheet under way, with the line of each record.
 #[derive(Default)]
@@ -188,7 +192,7 @@ impl Maker {
                 self.sheet = hex_words(rest)?;
                 Ok(())
             }
-            _ => Err(format!("unknown item `{}`", shown(head))),
+            _ => Err(format!("unknown item `{}`; {ITEMS}", shown(head))),
         }
     }
 
@@ -218,17 +222,25 @@ impl Maker {
 
 /// Why the record at a place of a made sheet is broken.
 fn broken(sheet: &[u8], place: usize) -> &'static str {
-    let mark = sheet.get(place..place + 2).unwrap_or_default();
-    match (mark, place) {
-        (b"AU", _) => "there is one author line",
+    match (sheet.get(place..).unwrap_or_default(), place) {
+        ([b'A', b'U', ..], _) => "a second author line",
         (_, 0) => "the author line comes first",
-        (b"ID", _) => "identifiers come before answers",
-        _ => "the name breaks the domain rule or is answered already",
+        ([b'I', b'D', ..], _) => "identifiers come before answers",
+        ([_, _, _, _, _, length, rest @ ..], _) if breaks_rule(rest, *length) => {
+            "the name breaks the domain rule"
+        }
+        _ => "the name is answered already",
     }
 }
 
+/// Whether a name of so many octets breaks the domain rule.
+fn breaks_rule(octets: &[u8], length: u8) -> bool {
+    let name = octets.get(..usize::from(length)).unwrap_or_default();
+    domain::fault(name).is_some()
+}
+
 fn shown(text: &[u8]) -> String {
-    String::from_utf8_lossy(text).into_owned()
+    text.escape_ascii().to_string()
 }
 
 /// Parts a line into words and quoted texts.
@@ -343,7 +355,9 @@ fn raw_number(token: &Token, name: &str) -> Result<u8, String> {
 
 fn author_body(tokens: &[Token]) -> Result<Vec<u8>, String> {
     let [domain, existence, support] = tokens else {
-        return Err("author takes a domain, its existence and the support".to_string());
+        return Err(
+            "author takes a domain, its existence and whether rejecting is supported".to_string(),
+        );
     };
     let raw = matches!(existence, Token::Word(word) if word.starts_with(b"existence="));
     let numbers = if raw {

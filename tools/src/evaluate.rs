@@ -2,9 +2,13 @@
 //! from its own start, nothing remembered".
 
 use crate::domain::Domain;
+use crate::grounds::{AppliedBy, Choice, Discovery, Grounds};
+use crate::grounds::{PolicySource, PolicyTag, Reason, ResultReason};
 use crate::policy::{Mode, Policy, Psd, Request, Settings};
 use crate::start::{Existence, Identifier, Kind, Message, Outcome};
-use crate::txt::{self, Answer, Reply};
+use crate::txt::{Answer, Reply};
+pub use crate::walk::{organizational, AskedName};
+use crate::walk::{Asker, Found, NoAnswerYet, Walk};
 
 #[derive(Clone, Copy, Debug, PartialEq, Eq)]
 pub enum DmarcResult {
@@ -51,15 +55,6 @@ pub struct Verdict {
     pub asked: usize,
 }
 
-/// A name of the list, with the first walk that looks at it (0 the author's,
-/// i+1 identifier i's) and the target's octet place in that walk's domain.
-#[derive(Clone, Debug, PartialEq, Eq)]
-pub struct AskedName {
-    pub name: Vec<u8>,
-    pub walk: usize,
-    pub place: usize,
-}
-
 /// How far the separate walks come over the given answers.
 #[derive(Clone, Debug, PartialEq, Eq)]
 pub enum Progress {
@@ -74,6 +69,8 @@ pub enum Progress {
 pub struct Evaluation {
     pub names: Vec<AskedName>,
     pub progress: Progress,
+    /// What the verdict rests on; nothing before there is one.
+    pub grounds: Option<Grounds>,
 }
 
 /// Runs a to f over the answers: a name to its answer, or nothing if it has no
@@ -82,171 +79,74 @@ pub fn evaluate<'a>(
     message: &Message,
     answers: impl Fn(&[u8]) -> Option<Answer<'a>>,
 ) -> Evaluation {
-    let mut asker = Asker {
-        answers,
-        names: Vec::new(),
-    };
-    let progress = match judge(&mut asker, message) {
-        Ok(mut verdict) => {
+    let mut asker = Asker::new(answers);
+    let (progress, grounds) = match judge(&mut asker, message) {
+        Ok((mut verdict, grounds)) => {
             verdict.asked = asker.names.len();
-            Progress::Verdict(verdict)
+            (Progress::Verdict(verdict), Some(grounds))
         }
-        Err(NoAnswerYet(name)) => Progress::Ask(name),
+        Err(NoAnswerYet(name)) => (Progress::Ask(name), None),
     };
     Evaluation {
         names: asker.names,
         progress,
+        grounds,
     }
 }
 
-/// One walk from a domain and its organizational domain, nothing after an error.
-/// The list is of the names this walk asks; the error is a name without an answer.
-pub fn organizational<'a>(
-    start: &Domain,
-    answers: impl Fn(&[u8]) -> Option<Answer<'a>>,
-) -> Result<(Option<Domain>, Vec<AskedName>), AskedName> {
-    let mut asker = Asker {
-        answers,
-        names: Vec::new(),
-    };
-    match asker.walk(0, start) {
-        Ok(walk) => Ok((organizational_domain(&walk), asker.names)),
-        Err(NoAnswerYet(name)) => Err(name),
-    }
-}
-
-/// Ends the run: this name has no answer yet.
-struct NoAnswerYet(AskedName);
-
-/// Keeps the list of names. It keeps no answers.
-struct Asker<F> {
-    answers: F,
-    names: Vec<AskedName>,
-}
-
-/// A record that a walk found.
-#[derive(Clone)]
-struct Found {
-    domain: Domain,
-    settings: Settings,
-}
-
-/// A walk that ended: the records found, longest domain first.
-struct Walk {
-    start: Domain,
-    found: Vec<Found>,
-    error: bool,
-}
-
-impl<'a, F: Fn(&[u8]) -> Option<Answer<'a>>> Asker<F> {
-    /// Looks at one target of a walk.
-    fn look(&mut self, walk: usize, start: &Domain, target: &Domain) -> Result<Reply, NoAnswerYet> {
-        // "A target over 246 octets is not asked and counts as none."
-        let Some(name) = target.asked_name() else {
-            return Ok(Reply::NoRecord);
-        };
-        let answer = (self.answers)(&name);
-        let place = start.place_of(target);
-        let asked = AskedName { name, walk, place };
-        if !self.names.iter().any(|known| known.name == asked.name) {
-            self.names.push(asked.clone());
-        }
-        answer.map(txt::reply).ok_or(NoAnswerYet(asked))
-    }
-
-    /// "It ends after a record with psd=y or psd=n, after an error, or at the
-    /// last label."
-    fn walk(&mut self, number: usize, start: &Domain) -> Result<Walk, NoAnswerYet> {
-        let mut walk = Walk {
-            start: start.clone(),
-            found: Vec::new(),
-            error: false,
-        };
-        for target in start.walk_targets() {
-            match self.look(number, start, &target)? {
-                Reply::NoRecord => {}
-                Reply::Error => {
-                    walk.error = true;
-                    break;
-                }
-                Reply::Record(settings) => {
-                    let domain = target;
-                    walk.found.push(Found { domain, settings });
-                    if settings.psd != Psd::Unset {
-                        break;
-                    }
-                }
-            }
-        }
-        Ok(walk)
-    }
-}
-
-/// "longest first, a psd=n record's domain; or, for a psd=y record not at the
-/// start, that domain with one more label of the start; failing both, the
-/// shortest domain with a record; failing that, the start. After an error it is
-/// unknown."
-fn organizational_domain(walk: &Walk) -> Option<Domain> {
-    if walk.error {
-        return None;
-    }
-    for found in &walk.found {
-        match found.settings.psd {
-            Psd::No => return Some(found.domain.clone()),
-            Psd::Yes if found.domain != walk.start => {
-                let labels = found.domain.label_count() + 1;
-                return Some(walk.start.last_labels(labels));
-            }
-            _ => {}
-        }
-    }
-    let shortest = walk.found.last().map(|found| found.domain.clone());
-    Some(shortest.unwrap_or_else(|| walk.start.clone()))
-}
-
-/// What step a finds.
-enum Discovery {
-    Applied(Found),
-    Nothing,
-    Error,
-}
-
-/// Step a: the author's own record, else the organizational domain's, "where
-/// the author's walk found one; else the psd=y one".
-fn discover<'a, F>(asker: &mut Asker<F>, author: &Domain) -> Result<Discovery, NoAnswerYet>
+/// Step a.
+fn discover<'a, F>(asker: &mut Asker<F>, message: &Message) -> Result<Grounds, NoAnswerYet>
 where
     F: Fn(&[u8]) -> Option<Answer<'a>>,
 {
+    let author = &message.author;
     // "pausing if its own name has a record"
     if let Reply::Record(settings) = asker.look(0, author, author)? {
         let domain = author.clone();
-        return Ok(Discovery::Applied(Found { domain, settings }));
+        return Ok(Grounds::paused(message, Found { domain, settings }));
     }
     let walk = asker.walk(0, author)?;
-    // "An error before it is known: temperror."
-    let Some(organizational) = organizational_domain(&walk) else {
-        return Ok(Discovery::Error);
-    };
-    let at_organizational = walk.found.iter().find(|f| f.domain == organizational);
-    let psd_yes = walk.found.iter().find(|f| f.settings.psd == Psd::Yes);
-    Ok(match at_organizational.or(psd_yes) {
-        Some(found) => Discovery::Applied(found.clone()),
-        None => Discovery::Nothing,
-    })
+    let organizational = walk.organizational_domain();
+    let discovery = discovered(&walk, organizational.as_ref());
+    Ok(Grounds::walked(message, discovery, walk, organizational))
 }
 
-/// The three policies of a usable record.
+/// The record that applies where the author has none of its own: the
+/// organizational domain's, "where the author's walk found one; else the psd=y
+/// one".
+fn discovered(walk: &Walk, organizational: Option<&Domain>) -> Discovery {
+    // "An error before it is known: temperror."
+    let Some(organizational) = organizational else {
+        return Discovery::Error;
+    };
+    let at_organizational = walk.found.iter().find(|f| f.domain == *organizational);
+    let psd_yes = walk.found.iter().find(|f| f.settings.psd == Psd::Yes);
+    match (at_organizational, psd_yes) {
+        (Some(found), _) => Discovery::Applied(found.clone(), AppliedBy::Organizational),
+        (None, Some(found)) => Discovery::Applied(found.clone(), AppliedBy::PsdYes),
+        (None, None) => Discovery::Nothing,
+    }
+}
+
+/// The three policies of a record.
 struct Policies {
     p: Policy,
     sp: Option<Policy>,
     np: Option<Policy>,
+    /// Whether they read as none because the record is not usable.
+    read_as_none: bool,
 }
 
 /// Step b. Nothing means permerror.
 fn policies(settings: &Settings) -> Option<Policies> {
     if let Request::Valid(p) = settings.p {
         if let (Ok(sp), Ok(np)) = (optional(settings.sp), optional(settings.np)) {
-            return Some(Policies { p, sp, np });
+            return Some(Policies {
+                p,
+                sp,
+                np,
+                read_as_none: false,
+            });
         }
     }
     // "Not usable but `rua` has a valid entry: all three policies read as none"
@@ -254,6 +154,7 @@ fn policies(settings: &Settings) -> Option<Policies> {
         p: Policy::None,
         sp: Some(Policy::None),
         np: Some(Policy::None),
+        read_as_none: true,
     })
 }
 
@@ -266,79 +167,84 @@ fn optional(request: Request) -> Result<Option<Policy>, ()> {
     }
 }
 
-/// Whether step c must walk an identifier: passing, not the author's domain,
-/// and not in strict mode.
-fn must_be_walked(identifier: &Identifier, author: &Domain, applied: &Settings) -> bool {
+/// The reason of an identifier that step c does not walk; nothing if it must be
+/// walked: passing, not the author's domain, and not in strict mode.
+fn unwalked(identifier: &Identifier, author: &Domain, applied: &Settings) -> Option<Reason> {
     let mode = match identifier.kind {
         Kind::Spf => applied.aspf,
         Kind::Dkim => applied.adkim,
     };
-    identifier.outcome == Outcome::Pass && identifier.domain != *author && mode == Mode::Relaxed
+    match identifier.outcome {
+        Outcome::NotPassing => Some(Reason::NotPassing),
+        Outcome::TemporaryError => Some(Reason::TemporaryError),
+        Outcome::Pass if identifier.domain == *author => Some(Reason::SameDomain),
+        Outcome::Pass => (mode == Mode::Strict).then_some(Reason::StrictMode),
+    }
 }
 
-/// Step c: the alignment of each identifier, in the given order.
-fn alignments<'a, F>(
+/// Step c: the reason of each identifier's alignment, in the given order.
+fn compare<'a, F>(
     asker: &mut Asker<F>,
     message: &Message,
     applied: &Settings,
-) -> Result<Vec<Alignment>, NoAnswerYet>
+    grounds: &mut Grounds,
+) -> Result<(), NoAnswerYet>
 where
     F: Fn(&[u8]) -> Option<Answer<'a>>,
 {
     let author = &message.author;
-    let walked = |identifier: &Identifier| must_be_walked(identifier, author, applied);
+    let unwalked = |identifier: &Identifier| unwalked(identifier, author, applied);
+    let must_be_walked = |identifier: &Identifier| unwalked(identifier).is_none();
     // "If any must be compared this way, the author's walk is first completed."
-    let mut author_organizational = None;
-    if message.identifiers.iter().any(walked) {
-        author_organizational = organizational_domain(&asker.walk(0, author)?);
+    if message.identifiers.iter().any(must_be_walked) {
+        grounds.complete(asker.walk(0, author)?);
     }
-    let mut alignments = Vec::new();
+    let mut reasons = Vec::new();
     for (index, identifier) in message.identifiers.iter().enumerate() {
-        let passing = identifier.outcome == Outcome::Pass;
-        alignments.push(if walked(identifier) {
-            compared(asker, index, identifier, author_organizational.as_ref())?
-        } else if passing && identifier.domain == *author {
-            Alignment::Aligned
-        } else {
-            Alignment::NotAligned
+        reasons.push(match unwalked(identifier) {
+            Some(reason) => reason,
+            None => walked(asker, index, identifier, grounds.organizational.as_ref())?,
         });
     }
-    Ok(alignments)
+    grounds.reasons = reasons;
+    Ok(())
 }
 
 /// "aligned means equal organizational domains; an error in its walk: unknown";
 /// it is not walked if "the author's walk ended in an error".
-fn compared<'a, F>(
+fn walked<'a, F>(
     asker: &mut Asker<F>,
     index: usize,
     identifier: &Identifier,
     author_organizational: Option<&Domain>,
-) -> Result<Alignment, NoAnswerYet>
+) -> Result<Reason, NoAnswerYet>
 where
     F: Fn(&[u8]) -> Option<Answer<'a>>,
 {
     let Some(author_organizational) = author_organizational else {
-        return Ok(Alignment::Unknown);
+        return Ok(Reason::AuthorWalkError);
     };
     let walk = asker.walk(index + 1, &identifier.domain)?;
-    Ok(match organizational_domain(&walk) {
-        None => Alignment::Unknown,
-        Some(own) if own == *author_organizational => Alignment::Aligned,
-        Some(_) => Alignment::NotAligned,
+    Ok(match walk.organizational_domain() {
+        None => Reason::WalkError(walk),
+        Some(own) if own == *author_organizational => Reason::SameOrganizational(walk),
+        Some(own) => Reason::OtherOrganizational(walk, own),
     })
 }
 
 /// Step d: "Any aligned: pass. Else any unknown, or any outcome 2: temperror.
 /// Else fail."
-fn result(message: &Message, alignments: &[Alignment]) -> DmarcResult {
+fn result_reason(message: &Message, reasons: &[Reason]) -> ResultReason {
+    let any = |alignment| reasons.iter().any(|reason| reason.alignment() == alignment);
     let outcome_2 = |identifier: &Identifier| identifier.outcome == Outcome::TemporaryError;
-    if alignments.contains(&Alignment::Aligned) {
-        DmarcResult::Pass
-    } else if alignments.contains(&Alignment::Unknown) || message.identifiers.iter().any(outcome_2)
-    {
-        DmarcResult::Temperror
+    if any(Alignment::Aligned) {
+        ResultReason::SomeAligned
+    } else if any(Alignment::Unknown) {
+        ResultReason::SomeUnknown
+    } else if message.identifiers.iter().any(outcome_2) {
+        ResultReason::SomeTemporaryError
     } else {
-        DmarcResult::Fail
+        ResultReason::NoneAligned
     }
 }
 
@@ -354,19 +260,31 @@ fn step_down(policy: Policy) -> Policy {
     row.map_or(Policy::None, |(_, to)| *to)
 }
 
-/// Step e.
-fn policy(policies: &Policies, own: bool, existence: Existence, testing: bool) -> AppliedPolicy {
-    let exists = policies.sp.unwrap_or(policies.p);
-    let missing = policies.np.unwrap_or(exists);
-    let before = match existence {
-        _ if own => policies.p,
-        Existence::Yes => exists,
-        Existence::No => missing,
+/// Step e: the tag that gives the policy, before the last step.
+fn policy_source(policies: &Policies, own: bool, existence: Existence) -> PolicySource {
+    let choice = |tag, policy| Choice { tag, policy };
+    let p = choice(PolicyTag::P, policies.p);
+    let sp = policies.sp.map(|policy| choice(PolicyTag::Sp, policy));
+    let np = policies.np.map(|policy| choice(PolicyTag::Np, policy));
+    let exists = sp.unwrap_or(p);
+    let missing = np.unwrap_or(exists);
+    match existence {
+        _ if own => PolicySource::Known(p),
+        Existence::Yes => PolicySource::Known(exists),
+        Existence::No => PolicySource::Known(missing),
         // "gives that policy where both agree before the step below"
-        Existence::NotKnown if exists == missing => exists,
-        Existence::NotKnown => return AppliedPolicy::Unknown,
-    };
-    AppliedPolicy::Known(if testing { step_down(before) } else { before })
+        Existence::NotKnown if exists.policy == missing.policy => PolicySource::Known(exists),
+        Existence::NotKnown => PolicySource::Unknown { exists, missing },
+    }
+}
+
+/// "With t=y the policy drops one step".
+fn policy(source: PolicySource, testing: bool) -> AppliedPolicy {
+    match source {
+        PolicySource::Known(choice) if testing => AppliedPolicy::Known(step_down(choice.policy)),
+        PolicySource::Known(choice) => AppliedPolicy::Known(choice.policy),
+        PolicySource::Unknown { .. } | PolicySource::NotReached => AppliedPolicy::Unknown,
+    }
 }
 
 /// Step f.
@@ -384,59 +302,61 @@ fn disposition(result: DmarcResult, policy: AppliedPolicy, support: bool) -> Dis
     }
 }
 
-/// "After none, permerror or the temperror of a, no identifier is walked and
-/// each alignment reads "not judged"."
-fn not_judged(
-    message: &Message,
-    result: DmarcResult,
-    domain: &[u8],
-    policy: AppliedPolicy,
-) -> Verdict {
-    Verdict {
-        result,
-        domain: domain.to_vec(),
-        policy,
-        disposition: disposition(result, policy, message.support),
-        alignments: vec![Alignment::NotJudged; message.identifiers.len()],
-        asked: 0,
-    }
-}
-
 /// Steps a to f; the count is put in by the caller.
-fn judge<'a, F>(asker: &mut Asker<F>, message: &Message) -> Result<Verdict, NoAnswerYet>
+fn judge<'a, F>(asker: &mut Asker<F>, message: &Message) -> Result<(Verdict, Grounds), NoAnswerYet>
 where
     F: Fn(&[u8]) -> Option<Answer<'a>>,
 {
-    let no_policy = AppliedPolicy::Known(Policy::None);
-    let applied = match discover(asker, &message.author)? {
-        Discovery::Applied(applied) => applied,
-        Discovery::Nothing => return Ok(not_judged(message, DmarcResult::None, b"", no_policy)),
-        Discovery::Error => {
-            let unknown = AppliedPolicy::Unknown;
-            return Ok(not_judged(message, DmarcResult::Temperror, b"", unknown));
+    let mut grounds = discover(asker, message)?;
+    // "Policy is "none" for results none and permerror, and "unknown" for the
+    // temperror of a".
+    let mut policy = match grounds.discovery {
+        Discovery::Error => AppliedPolicy::Unknown,
+        _ => AppliedPolicy::Known(Policy::None),
+    };
+    let applied = grounds.applied().cloned();
+    if let Some(applied) = &applied {
+        // "After none, permerror or the temperror of a, no identifier is walked".
+        if let Some(policies) = policies(&applied.settings) {
+            policy = judged(asker, message, applied, &policies, &mut grounds)?;
         }
-    };
-    let (domain, settings) = (applied.domain.octets(), &applied.settings);
-    let Some(policies) = policies(settings) else {
-        let result = DmarcResult::Permerror;
-        return Ok(not_judged(message, result, domain, no_policy));
-    };
-    let alignments = alignments(asker, message, settings)?;
-    let own = applied.domain == message.author;
-    let policy = policy(&policies, own, message.existence, settings.testing);
-    let mut result = result(message, &alignments);
-    // "else "unknown", and then fail becomes temperror"
-    if result == DmarcResult::Fail && policy == AppliedPolicy::Unknown {
-        result = DmarcResult::Temperror;
     }
-    Ok(Verdict {
+    let result = grounds.result.result();
+    let verdict = Verdict {
         result,
-        domain: domain.to_vec(),
+        domain: applied.map_or(Vec::new(), |found| found.domain.octets().to_vec()),
         policy,
         disposition: disposition(result, policy, message.support),
-        alignments,
+        alignments: grounds.reasons.iter().map(Reason::alignment).collect(),
         asked: 0,
-    })
+    };
+    Ok((verdict, grounds))
+}
+
+/// Steps c to e by a record whose policies are known. Gives the policy.
+fn judged<'a, F>(
+    asker: &mut Asker<F>,
+    message: &Message,
+    applied: &Found,
+    policies: &Policies,
+    grounds: &mut Grounds,
+) -> Result<AppliedPolicy, NoAnswerYet>
+where
+    F: Fn(&[u8]) -> Option<Answer<'a>>,
+{
+    compare(asker, message, &applied.settings, grounds)?;
+    let own = applied.domain == message.author;
+    grounds.source = policy_source(policies, own, message.existence);
+    grounds.read_as_none = policies.read_as_none;
+    let policy = policy(grounds.source, applied.settings.testing);
+    grounds.result = match result_reason(message, &grounds.reasons) {
+        // "else "unknown", and then fail becomes temperror"
+        ResultReason::NoneAligned if policy == AppliedPolicy::Unknown => {
+            ResultReason::PolicyUnknown
+        }
+        reason => reason,
+    };
+    Ok(policy)
 }
 
 impl DmarcResult {

@@ -47,6 +47,13 @@ pub fn hostile(seed: u64, index: u64) -> Vec<u8> {
     hostile::spoil(&mut random, draft)
 }
 
+/// A sheet with answers that are never asked, up to so many octets; the last few
+/// octets may be left over.
+pub fn filled(mut sheet: Vec<u8>, octets: usize) -> Vec<u8> {
+    hostile::fill(&mut sheet, octets, &mut 0);
+    sheet
+}
+
 /// A sheet before it is written.
 #[derive(Clone, Debug, Default)]
 struct Draft {

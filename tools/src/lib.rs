@@ -5,14 +5,20 @@
 
 #![forbid(unsafe_code)]
 
+pub mod agreement;
+pub mod appendix_b;
 pub mod book;
 pub mod calls;
 pub mod cases;
 pub mod describe;
 pub mod domain;
 pub mod evaluate;
+pub mod example;
+pub mod explain;
 pub mod generate;
+pub mod grounds;
 pub mod marked;
+pub mod messages;
 pub mod policy;
 pub mod random;
 pub mod refusal;
@@ -23,3 +29,4 @@ pub mod tally;
 pub mod timing;
 pub mod txt;
 pub mod vectors;
+pub mod walk;

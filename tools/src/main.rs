@@ -8,18 +8,20 @@ use std::process::ExitCode;
 use tools::generate::SheetKind;
 use tools::marked::MARKED;
 use tools::tally::tally;
-use tools::{calls, describe, sheet, timing, vectors};
+use tools::{calls, describe, explain, messages, sheet, timing, vectors};
 
 const USAGE: &str = "usage:
   dmarc-tools run < sheet
   dmarc-tools make < description > sheet
   dmarc-tools describe < sheet
+  dmarc-tools explain < sheet
   dmarc-tools sheets KIND SEED COUNT DIR
   dmarc-tools tally KIND SEED COUNT
   dmarc-tools marked
   dmarc-tools vectors CASES EXPECTED
   dmarc-tools calls CASES EXPECTED
   dmarc-tools timing COUNT DIR
+  dmarc-tools messages CASES EXPECTED
 KIND is ordinary or hostile.";
 
 fn main() -> ExitCode {
@@ -29,12 +31,14 @@ fn main() -> ExitCode {
         ["run"] => run(),
         ["make"] => make(),
         ["describe"] => described(),
+        ["explain"] => explained(),
         ["sheets", kind, seed, count, dir] => sheets(kind, seed, count, dir),
         ["tally", kind, seed, count] => tallied(kind, seed, count),
         ["marked"] => marked(),
-        ["vectors", cases, expected] => write_vectors(cases, expected),
-        ["calls", cases, expected] => write_calls(cases, expected),
+        ["vectors", cases, expected] => write_vectors([cases, expected]),
+        ["calls", cases, expected] => write_calls([cases, expected]),
         ["timing", count, dir] => write_timing(count, dir),
+        ["messages", cases, expected] => write_messages([cases, expected]),
         _ => Err(USAGE.to_string()),
     };
     match outcome {
@@ -64,10 +68,18 @@ fn output(octets: &[u8]) -> Result<(), String> {
     out.flush().map_err(failed)
 }
 
+/// A sheet from standard input. One octet over the limit settles that it is
+/// over it.
+fn sheet_input() -> Result<Vec<u8>, String> {
+    input(sheet::MOST_OCTETS as u64 + 1)
+}
+
 fn run() -> Result<(), String> {
-    // One octet over the limit settles that a sheet is over it.
-    let octets = input(sheet::MOST_OCTETS as u64 + 1)?;
-    output(&sheet::run(&octets))
+    output(&sheet::run(&sheet_input()?))
+}
+
+fn explained() -> Result<(), String> {
+    output(explain::explain(&sheet_input()?).as_bytes())
 }
 
 fn make() -> Result<(), String> {
@@ -118,30 +130,41 @@ fn marked() -> Result<(), String> {
     }
 }
 
-/// Writes both files, and prints how many cases of each kind there are.
-fn write_vectors(cases_path: &str, expected_path: &str) -> Result<(), String> {
-    let (octets, lines) = vectors::files().ok_or("a case is too long for its length")?;
+/// Writes the cases for another program, and what it must print.
+fn write_both(paths: [&str; 2], octets: &[u8], expected: &[u8]) -> Result<(), String> {
+    let [cases_path, expected_path] = paths;
     fs::write(cases_path, octets).map_err(failed)?;
-    fs::write(expected_path, lines).map_err(failed)?;
-    let cases = vectors::cases();
-    for kind in b"PAFI" {
-        let count = cases.iter().filter(|case| case.kind() == *kind).count();
+    fs::write(expected_path, expected).map_err(failed)
+}
+
+/// Prints how many cases of each kind there are.
+fn print_counts(kinds: &[u8], cases: &[u8]) -> Result<(), String> {
+    for kind in kinds {
+        let count = cases.iter().filter(|own| *own == kind).count();
         output(format!("{} {count}\n", char::from(*kind)).as_bytes())?;
     }
     Ok(())
 }
 
-/// Writes both files, and prints how many calls of each kind there are.
-fn write_calls(cases_path: &str, expected_path: &str) -> Result<(), String> {
+fn write_vectors(paths: [&str; 2]) -> Result<(), String> {
+    let (octets, lines) = vectors::files().ok_or("a case is too long for its length")?;
+    write_both(paths, &octets, lines.as_bytes())?;
+    let kinds: Vec<u8> = vectors::cases().iter().map(|case| case.kind()).collect();
+    print_counts(b"PAFI", &kinds)
+}
+
+fn write_calls(paths: [&str; 2]) -> Result<(), String> {
     let (octets, lines) = calls::files().ok_or("a call is too long for its length")?;
-    fs::write(cases_path, octets).map_err(failed)?;
-    fs::write(expected_path, lines).map_err(failed)?;
+    write_both(paths, &octets, lines.as_bytes())?;
     let calls = calls::calls().unwrap_or_default();
-    for kind in b"SNARF" {
-        let count = calls.iter().filter(|call| call.kind() == *kind).count();
-        output(format!("{} {count}\n", char::from(*kind)).as_bytes())?;
-    }
-    Ok(())
+    let kinds: Vec<u8> = calls.iter().map(|call| call.kind()).collect();
+    print_counts(b"SNARF", &kinds)
+}
+
+fn write_messages(paths: [&str; 2]) -> Result<(), String> {
+    let (octets, text) = messages::files()?;
+    write_both(paths, &octets, &text)?;
+    output(format!("M {}\n", messages::messages()?.len()).as_bytes())
 }
 
 /// Writes a file for each number of identifiers and length of the walks, named

@@ -1,32 +1,10 @@
 //! The twelve marked sheets of document 01 with all their variants.
 
-use crate::describe;
-use crate::sheet;
-
-/// A marked sheet: its description and its whole output.
-#[derive(Clone, Copy, Debug)]
-pub struct Marked {
-    pub name: &'static str,
-    pub description: &'static str,
-    pub output: &'static str,
-}
-
-impl Marked {
-    /// The sheet, or why its description makes none.
-    pub fn sheet(&self) -> Result<Vec<u8>, String> {
-        describe::make(self.description.as_bytes())
-    }
-
-    /// Whether the sheet's run gives the whole output.
-    pub fn holds(&self) -> bool {
-        self.sheet()
-            .is_ok_and(|sheet| sheet::run(&sheet) == self.output.as_bytes())
-    }
-}
+use crate::example::Example;
 
 /// The fifteen rows.
-pub const MARKED: &[Marked] = &[
-    Marked {
+pub const MARKED: &[Example] = &[
+    Example {
         name: "1",
         description: r#"
 author example.com exists supported
@@ -44,7 +22,7 @@ disposition none
 asked 3
 ",
     },
-    Marked {
+    Example {
         name: "2",
         description: r#"
 author example.com exists supported
@@ -60,7 +38,7 @@ disposition reject
 asked 1
 ",
     },
-    Marked {
+    Example {
         name: "2, support 0",
         description: r#"
 author example.com exists unsupported
@@ -76,7 +54,7 @@ disposition quarantine
 asked 1
 ",
     },
-    Marked {
+    Example {
         name: "3",
         description: r#"
 author news.example.com exists supported
@@ -93,7 +71,7 @@ disposition quarantine
 asked 3
 ",
     },
-    Marked {
+    Example {
         name: "4, existence 0",
         description: r#"
 author news.example.com missing supported
@@ -110,7 +88,7 @@ disposition reject
 asked 3
 ",
     },
-    Marked {
+    Example {
         name: "4, existence 2",
         description: r#"
 author news.example.com unknown supported
@@ -127,7 +105,7 @@ disposition defer
 asked 3
 ",
     },
-    Marked {
+    Example {
         name: "5",
         description: r#"
 author news.example.com exists supported
@@ -143,7 +121,7 @@ disposition defer
 asked 2
 ",
     },
-    Marked {
+    Example {
         name: "6",
         description: r#"
 author a.shop.example exists supported
@@ -161,7 +139,7 @@ disposition none
 asked 3
 ",
     },
-    Marked {
+    Example {
         name: "7",
         description: r#"
 author example exists supported
@@ -177,7 +155,7 @@ disposition reject
 asked 2
 ",
     },
-    Marked {
+    Example {
         name: "8",
         description: r#"
 author EXAMPLE.com exists supported
@@ -192,7 +170,7 @@ disposition none
 asked 1
 ",
     },
-    Marked {
+    Example {
         name: "9",
         description: r#"
 author a.b.c.d.e.f.g.h.test exists supported
@@ -219,7 +197,7 @@ disposition none
 asked 8
 ",
     },
-    Marked {
+    Example {
         name: "10",
         description: r#"
 author example.com exists supported
@@ -233,7 +211,7 @@ disposition quarantine
 asked 1
 ",
     },
-    Marked {
+    Example {
         name: "11",
         description: r#"
 author example.com exists supported
@@ -248,7 +226,7 @@ disposition none
 asked 2
 ",
     },
-    Marked {
+    Example {
         name: "12",
         description: r#"
 author example.com exists supported
@@ -262,7 +240,7 @@ disposition none
 asked 1
 ",
     },
-    Marked {
+    Example {
         name: "12, with rua",
         description: r#"
 author example.com exists supported

@@ -2,10 +2,11 @@
 
 use std::collections::HashMap;
 
-use crate::domain;
+use crate::domain::{self, Domain};
 use crate::evaluate::{evaluate, AskedName, Progress, Verdict};
+use crate::grounds::Grounds;
 use crate::refusal::Refusal;
-use crate::start::{start, GivenIdentifier, GivenMessage};
+use crate::start::{start, GivenIdentifier, GivenMessage, Message};
 use crate::txt::{self, Answer, Status};
 
 /// "or over 65,536 octets"
@@ -155,6 +156,12 @@ impl<'a> Sheet<'a> {
         let answer = given.map_or(error, |given| given.answer);
         txt::acceptable(answer).then_some(answer)
     }
+
+    /// The text of the policy record at a domain, if it has one.
+    pub fn record_text(&self, domain: &Domain) -> Option<Vec<u8>> {
+        let answer = self.answer(&domain.asked_name()?)?;
+        txt::record_text(answer)
+    }
 }
 
 /// The whole output for a sheet.
@@ -165,15 +172,35 @@ pub fn run(octets: &[u8]) -> Vec<u8> {
     }
 }
 
+/// A verdict, with its message and all that it rests on.
+#[derive(Clone, Debug, PartialEq, Eq)]
+pub struct Reasoned {
+    pub message: Message,
+    pub names: Vec<AskedName>,
+    pub verdict: Verdict,
+    pub grounds: Grounds,
+}
+
+/// The names asked and the verdict.
+pub fn verdict(octets: &[u8]) -> Result<(Vec<AskedName>, Verdict), Refusal> {
+    let reasoned = reasoned(octets)?;
+    Ok((reasoned.names, reasoned.verdict))
+}
+
 /// "The first 8 is given before any other refusal; then 1 to 4; then 6, when
 /// that name is asked."
-pub fn verdict(octets: &[u8]) -> Result<(Vec<AskedName>, Verdict), Refusal> {
+pub fn reasoned(octets: &[u8]) -> Result<Reasoned, Refusal> {
     let sheet = read(octets)?;
     let message = start(&sheet.message)?;
     let evaluation = evaluate(&message, |name| sheet.answer(name));
-    match evaluation.progress {
-        Progress::Verdict(verdict) => Ok((evaluation.names, verdict)),
-        Progress::Ask(_) => Err(Refusal::new(6, 0)),
+    match (evaluation.progress, evaluation.grounds) {
+        (Progress::Verdict(verdict), Some(grounds)) => Ok(Reasoned {
+            message,
+            names: evaluation.names,
+            verdict,
+            grounds,
+        }),
+        _ => Err(Refusal::new(6, 0)),
     }
 }
 

@@ -165,10 +165,11 @@ pub fn from_lists<'a>(
     kinds.iter().enumerate().map(given).collect()
 }
 
-/// Identifiers packed in one text: for each a 16-bit length (high octet first)
-/// and a body of kind, outcome and domain. Document 01 has no refusal for a
-/// broken packing: a number that is not there is 255, which is not listed, and
-/// an identifier that runs past the end has an empty domain.
+/// Identifiers packed in one text, each as a sheet's record: a mark of two
+/// octets, which is not looked at, a 16-bit length (high octet first) and a body
+/// of kind, outcome and domain. Document 01 has no refusal for a broken packing:
+/// a number that is not there is 255, which is not listed, and an identifier
+/// that runs past the end has an empty domain.
 pub fn unpacked(packed: &[u8]) -> Vec<GivenIdentifier<'_>> {
     let mut identifiers = Vec::new();
     let mut rest = packed;
@@ -183,7 +184,7 @@ pub fn unpacked(packed: &[u8]) -> Vec<GivenIdentifier<'_>> {
 /// The first packed identifier, and what comes after it.
 fn unpack(packed: &[u8]) -> (GivenIdentifier<'_>, &[u8]) {
     let (length, rest) = match packed {
-        [high, low, rest @ ..] => (usize::from(u16::from_be_bytes([*high, *low])), rest),
+        [_, _, high, low, rest @ ..] => (usize::from(u16::from_be_bytes([*high, *low])), rest),
         _ => (0, [].as_slice()),
     };
     let whole = rest.split_at_checked(length);
@@ -197,11 +198,13 @@ fn unpack(packed: &[u8]) -> (GivenIdentifier<'_>, &[u8]) {
     (identifier, after)
 }
 
-/// Packs identifiers, or nothing if a domain is too long for its length.
+/// Packs identifiers as `ID` records, or nothing if a domain is too long for its
+/// length.
 pub fn packed(identifiers: &[GivenIdentifier]) -> Option<Vec<u8>> {
     let mut packed = Vec::new();
     for given in identifiers {
         let length = u16::try_from(given.domain.len() + 2).ok()?;
+        packed.extend(b"ID");
         packed.extend(length.to_be_bytes());
         packed.extend([given.kind, given.outcome]);
         packed.extend(given.domain);

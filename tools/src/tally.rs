@@ -41,8 +41,16 @@ pub fn tally(kind: SheetKind, seed: u64, count: u64) -> Tally {
 }
 
 impl Tally {
+    /// How the sheets ended, in one line: verdicts by result, refusals by number.
+    pub fn endings(&self) -> String {
+        let results = self.results.iter().map(|(word, n)| format!("{word} {n}"));
+        let refusals = self.refusals.iter();
+        let refusals = refusals.map(|(number, n)| format!("refused {number} {n}"));
+        results.chain(refusals).collect::<Vec<_>>().join(", ")
+    }
+
     /// Counts one output by its lines.
-    fn add(&mut self, output: &str) {
+    pub fn add(&mut self, output: &str) {
         self.sheets += 1;
         let mut verdict = Vec::new();
         for line in output.lines() {

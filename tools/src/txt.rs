@@ -88,22 +88,31 @@ pub fn acceptable(answer: Answer) -> bool {
     answer.status != Status::Records || texts(answer.bytes).is_some()
 }
 
-/// The reply at a name: "texts that are no policy record are dropped. If two or
-/// more remain, all are dropped. A single remaining text is the name's record."
+/// The reply at a name.
 pub fn reply(answer: Answer) -> Reply {
     match answer.status {
         Status::None => Reply::NoRecord,
         Status::Error => Reply::Error,
         // Only acceptable answers are walked over; one that is not would be an
         // error here, never an empty one.
-        Status::Records => texts(answer.bytes).map_or(Reply::Error, |texts| single(&texts)),
+        Status::Records => texts(answer.bytes).map_or(Reply::Error, |texts| {
+            let single = single(texts);
+            single.map_or(Reply::NoRecord, |(_, settings)| Reply::Record(settings))
+        }),
     }
 }
 
-fn single(texts: &[Vec<u8>]) -> Reply {
-    let policies: Vec<Settings> = texts.iter().filter_map(|text| policy::read(text)).collect();
-    match policies.as_slice() {
-        [settings] => Reply::Record(*settings),
-        _ => Reply::NoRecord,
-    }
+/// The text of the record at a name, if it has one.
+pub fn record_text(answer: Answer) -> Option<Vec<u8>> {
+    let texts = texts(answer.bytes).filter(|_| answer.status == Status::Records);
+    single(texts?).map(|(text, _)| text)
+}
+
+/// "texts that are no policy record are dropped. If two or more remain, all are
+/// dropped. A single remaining text is the name's record."
+fn single(texts: Vec<Vec<u8>>) -> Option<(Vec<u8>, Settings)> {
+    let policy = |text: Vec<u8>| policy::read(&text).map(|settings| (text, settings));
+    let mut policies = texts.into_iter().filter_map(policy);
+    let first = policies.next();
+    first.filter(|_| policies.next().is_none())
 }

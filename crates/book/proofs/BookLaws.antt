@@ -85,6 +85,16 @@ unfolding leaves
 kept-calls b κ [] = κ
 kept-calls b κ (c ∷ cs) = kept-calls (book-call b c .0) (kept-call b κ c) cs
 
+leaves-snoc : (b : Book) (cs : List Call) (c : Call) → leaves book-call b (cs ++ (c ∷ [])) ≡ book-call (leaves book-call b cs) c .0
+unfolding leaves
+leaves-snoc b [] c = refl
+leaves-snoc b (d ∷ cs) c = leaves-snoc (book-call b d .0) cs c
+
+-- the book after one call more
+pub after-snoc : (m : Message) (cs : List Call) (c : Call) → after m (cs ++ (c ∷ [])) ≡ book-call (after m cs) c .0
+unfolding after
+after-snoc m cs c = leaves-snoc (opened m) cs c
+
 pub kept-after : (m : Message) (cs : List Call) → Kept (after m cs)
 unfolding after
 kept-after m cs = kept-calls (opened m) (kept-opened m) cs
@@ -180,7 +190,7 @@ unfolding leaves
 message-calls b [] = refl
 message-calls b (c ∷ cs) = message-calls (book-call b c .0) cs ∙ message-call b c
 
-message-after : (m : Message) (cs : List Call) → after m cs .message ≡ m
+pub message-after : (m : Message) (cs : List Call) → after m cs .message ≡ m
 unfolding after opened
 message-after m cs = message-calls (opened m) cs
 

@@ -134,6 +134,16 @@ fn refuse(number: u8, place: usize) -> Refusal
     Refusal { number, place }
 }
 
+// An evaluation that was refused something, as it was.
+fn refused(e: Evaluation, number: u8, place: usize) -> Changed
+    ensures { λ r. ⌜ r ≡ record { evaluation = e; acceptance = Acceptance.Refused (refusal number place) } ⌝ }
+{
+    Changed {
+        evaluation: e,
+        acceptance: Acceptance::Refused(Refusal { number, place }),
+    }
+}
+
 // The next step.
 pub fn next(e: Evaluation) -> Stepped
     ensures { λ r. ⌜ Does e next (r .evaluation) (given (step-back e (r .step)) []) ⌝ }
@@ -223,16 +233,6 @@ fn keep(e: Evaluation, r: Reply) -> Evaluation
     after
 }
 
-// An answer that is refused: the evaluation as it was.
-fn refuse_answer(e: Evaluation, f: Refusal) -> Changed
-    ensures { λ r. ⌜ r ≡ record { evaluation = e; acceptance = Acceptance.Refused f } ⌝ }
-{
-    Changed {
-        evaluation: e,
-        acceptance: Acceptance::Refused(f),
-    }
-}
-
 // An answer for the name now asked.
 pub fn answer(
     e: Evaluation,
@@ -244,13 +244,13 @@ pub fn answer(
     ensures { λ r. ⌜ Does e (answer (now (name .entry)) status (now (bytes .entry)) (now (scratch .entry))) (r .evaluation) (given (acceptance-back (r .acceptance)) (now (scratch .exit))) ⌝ }
 {
     if !is_asked(e, name) {
-        return refuse_answer(e, refuse(5, 0));
+        return refused(e, 5, 0);
     }
     if MOST_NAMES <= e.count {
-        return refuse_answer(e, refuse(5, 0));
+        return refused(e, 5, 0);
     }
     match txt::take_answer(status, bytes, scratch) {
-        Taken::Refused(f) => refuse_answer(e, f),
+        Taken::Refused(f) => refused(e, f.number, f.place),
         Taken::Reply(r) => Changed {
             evaluation: keep(e, r),
             acceptance: Acceptance::Accepted,

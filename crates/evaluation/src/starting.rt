@@ -2,15 +2,13 @@
 ghost use mathlib.Core.Path.{_≡_};
 ghost use mathlib.Core.List.{[]};
 ghost use Prim.Native.Nat.{_<_, _≤_, min};
-ghost use lib.ListN.{length, getD};
+ghost use lib.ListN.{length};
 ghost use Rattle.octets.specs.Octets.{Octets, any, lower};
-ghost use Rattle.octets.specs.Refusing.{refusal};
-ghost use Rattle.evaluation.specs.declared.Acceptance.{Acceptance};
 ghost use Rattle.alignment.specs.Stored.{kind-in, outcome-in, identifiers-from};
 ghost use Rattle.verdict.specs.Message.{Message};
-ghost use Rattle.book.specs.Start.{existence-read, is-spf, unpacked, started};
+ghost use Rattle.book.specs.Start.{existence-read, is-spf, item-domain, unpacked, started};
 ghost use Rattle.evaluation.specs.View.{Changes, started-view, given-message};
-ghost use Rattle.evaluation.specs.Adding.{opening, with-identifier, adding, adding-each, item-size, item-body, item-domain, Holds, Opens, AddsEach};
+ghost use Rattle.evaluation.specs.Adding.{opening, with-identifier, adding, adding-each, Holds, Opens, AddsEach};
 use crate::Acceptance;
 use crate::Changed;
 use crate::Evaluation;
@@ -18,16 +16,6 @@ use alignment::Kind;
 use domain::Checked;
 use verdict::Existence;
 use verdict::Terms;
-
-// An evaluation that was refused something, as it was.
-fn refused(e: Evaluation, number: u8, place: usize) -> Changed
-    ensures { λ r. ⌜ r ≡ record { evaluation = e; acceptance = Acceptance.Refused (refusal number place) } ⌝ }
-{
-    Changed {
-        evaluation: e,
-        acceptance: Acceptance::Refused(crate::refuse(number, place)),
-    }
-}
 
 // The existence that a number says.
 fn read_existence(n: u8) -> Existence
@@ -69,13 +57,13 @@ fn open(e: Evaluation, author: &[u8], existence: u8, support: u8) -> Changed
     ensures { λ r. ⌜ Opens e (opening (now (author .entry)) existence support) r ⌝ }
 {
     match domain::check(author) {
-        Checked::Bad(at) => refused(e, 1, at.0),
+        Checked::Bad(at) => crate::refused(e, 1, at.0),
         Checked::Good(_) => {
             if 2 < existence {
-                return refused(e, 3, 255);
+                return crate::refused(e, 3, 255);
             }
             if 1 < support {
-                return refused(e, 3, 255);
+                return crate::refused(e, 3, 255);
             }
             Changed {
                 evaluation: hold(author, existence, support == 1),
@@ -135,21 +123,21 @@ fn add(e: Evaluation, kind: u8, outcome: u8, d: &[u8]) -> Changed
     let terms = e.terms;
     let index = text::smaller(terms.identifiers, 16);
     if 1 < kind {
-        return refused(e, 3, index);
+        return crate::refused(e, 3, index);
     }
     if 2 < outcome {
-        return refused(e, 3, index);
+        return crate::refused(e, 3, index);
     }
     if 16 <= index {
-        return refused(e, 4, index);
+        return crate::refused(e, 4, index);
     }
     if kind == 0 {
         if has_spf(&e.numbers, index) {
-            return refused(e, 4, index);
+            return crate::refused(e, 4, index);
         }
     }
     if !domain::is_domain(d) {
-        return refused(e, 2, index);
+        return crate::refused(e, 2, index);
     }
     Changed {
         evaluation: store(e, kind, outcome, d),
@@ -157,41 +145,15 @@ fn add(e: Evaluation, kind: u8, outcome: u8, d: &[u8]) -> Changed
     }
 }
 
-// An octet of a text, or another where there is none.
-fn octet_at(s: &[u8], at: usize, other: u8) -> u8
-    ensures { λ r. ⌜ r ≡ getD (now (s .entry)) at other ⌝ }
-{
-    if at < s.len() {
-        return s[at];
-    }
-    other
-}
-
-// The length of the next packed identifier.
-fn item_size(packed: &[u8]) -> usize
-    ensures { λ r. ⌜ (r ≡ item-size (now (packed .entry))) × (r ≤ 65535) ⌝ }
-{
-    let high = octet_at(packed, 0, 0) as usize;
-    let low = octet_at(packed, 1, 0) as usize;
-    high * 256 + low
-}
-
-// Its kind, outcome and domain.
-fn item_body(packed: &[u8]) -> &[u8]
-    ensures { λ r. ⌜ now r ≡ item-body (now (packed .entry)) ⌝ }
-{
-    text::part(packed, 2, 2 + item_size(packed))
-}
-
-// Its domain, empty where it runs past the end.
+// The domain of the next packed identifier, empty where it runs past the end.
 fn item_domain(packed: &[u8]) -> &[u8]
     ensures { λ r. ⌜ now r ≡ item-domain (now (packed .entry)) ⌝ }
 {
-    let end = 2 + item_size(packed);
+    let end = 4 + records::size(packed);
     if packed.len() < end {
         return text::part(packed, 0, 0);
     }
-    text::part(packed, 4, end)
+    text::part(packed, 6, end)
 }
 
 // Adds packed identifiers, one after the other.
@@ -204,15 +166,15 @@ fn add_each(e: Evaluation, packed: &[u8]) -> Changed
             acceptance: Acceptance::Accepted,
         };
     }
-    let body = item_body(packed);
-    let kind = octet_at(body, 0, 255);
-    let outcome = octet_at(body, 1, 255);
+    let body = records::body(packed);
+    let kind = records::octet_at(body, 0, 255);
+    let outcome = records::octet_at(body, 1, 255);
     let added = add(e, kind, outcome, item_domain(packed));
     let acceptance = added.acceptance;
     if let Acceptance::Refused(_) = acceptance {
         return added;
     }
-    let end = 2 + item_size(packed);
+    let end = 4 + records::size(packed);
     add_each(added.evaluation, text::skip(packed, end))
 }
 
@@ -234,10 +196,7 @@ pub fn start<'a>(
     let added = add_each(opened.evaluation, packed);
     let adding = added.acceptance;
     if let Acceptance::Refused(f) = adding {
-        return Changed {
-            evaluation: e,
-            acceptance: Acceptance::Refused(f),
-        };
+        return crate::refused(e, f.number, f.place);
     }
     added
 }

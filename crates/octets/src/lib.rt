@@ -41,7 +41,7 @@ fn next_place(at: usize, w: Written) -> usize
 }
 
 // An octet in lower case.
-pub fn lower_octet(b: u8) -> u8
+fn lower_octet(b: u8) -> u8
     ensures { λ r. ⌜ r ≡ lower-octet b ⌝ }
 {
     if 65 <= b {
@@ -115,7 +115,7 @@ pub fn decimal_length(x: u64) -> usize
 }
 
 // A number in decimal into the front of lent memory.
-pub fn write_decimal(x: u64, out: &mut [u8]) -> Written
+fn write_decimal(x: u64, out: &mut [u8]) -> Written
     ensures { λ r. ⌜ Writes (decimal x) (now (out .entry)) r (now (out .exit)) ⌝ }
 {
     let digits = decimal_length(x);

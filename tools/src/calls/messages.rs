@@ -352,9 +352,9 @@ fn with_identifiers(packed: Vec<u8>) -> StartCall {
     }
 }
 
-/// One packed identifier.
+/// One packed identifier: a sheet's `ID` record.
 fn item(kind: u8, outcome: u8, domain: &[u8]) -> Vec<u8> {
-    let mut octets = vec![0, domain.len() as u8 + 2, kind, outcome];
+    let mut octets = vec![b'I', b'D', 0, domain.len() as u8 + 2, kind, outcome];
     octets.extend(domain);
     octets
 }
@@ -424,7 +424,7 @@ fn refused_identifiers() -> Vec<Vec<u8>> {
     let sixteen = [spf.clone(), good.repeat(15)].concat();
     let foreign = longer("com", 252).replace(".com", ".c,m");
     let too_long = longer("com", 254);
-    let pairs: [(&[u8], &[u8]); 31] = [
+    let pairs: [(&[u8], &[u8]); 37] = [
         (b"", &item(2, 1, b"example.com")),
         (b"", &item(1, 3, b"example.com")),
         (&[&good[..], &spf].concat(), &item(255, 255, b"")),
@@ -445,21 +445,30 @@ fn refused_identifiers() -> Vec<Vec<u8>> {
         (b"", &item(0, 0, b"")),
         (b"", &item(1, 2, b"a.b.")),
         (&good, &item(1, 1, foreign.as_bytes())),
-        (&[1, 0, 1, 1], too_long.as_bytes()),
-        // Packings that are cut.
-        (b"", &[0]),
-        (b"", &[0, 0]),
-        (b"", &[0, 1, 1]),
-        (b"", &[0, 2, 1, 1]),
-        (b"", &[0, 3, 1]),
-        (b"", &[0, 8, 1, 1, b'a', b'.', b'b']),
-        (b"", &[255, 255, 1, 1, b'a', b'.', b'b']),
-        (b"", &[255, 255, 2, 1, b'a', b'.', b'b']),
-        (&good, &[0]),
-        (&good, &[7]),
-        (&good, &[0, 200, 1, 1, b'a']),
-        (&spf, &[0, 200, 0, 1, b'a']),
-        (&sixteen, &[0]),
+        (b"ID\x01\0\x01\x01", too_long.as_bytes()),
+        // The mark is not looked at.
+        (b"AN\0\x05\x01\x01a.b", &bad),
+        (b"\0\0\0\x05\0\x01a.b\xff\xff\0\x05\x01\0a.b", &spf),
+        // Cut in the mark, before the length, and in it.
+        (b"", b"I"),
+        (b"", b"ID"),
+        (b"", b"ID\0"),
+        // The body is cut, or too short.
+        (b"", b"ID\0\0"),
+        (b"", b"ID\0\x01\x01"),
+        (b"", b"ID\0\x02\x01\x01"),
+        (b"", b"ID\0\x03"),
+        (b"", b"ID\0\x03\x01"),
+        (b"", b"ID\0\x08\x01\x01a.b"),
+        (b"", b"ID\xff\xff\x01\x01a.b"),
+        (b"", b"ID\xff\xff\x02\x01a.b"),
+        // Cut after others.
+        (&good, b"I"),
+        (&good, b"ID\0"),
+        (&good, b"ID\x07"),
+        (&good, b"ID\0\xc8\x01\x01a"),
+        (&spf, b"ID\0\xc8\0\x01a"),
+        (&sixteen, b"I"),
     ];
     pairs.map(|(front, last)| [front, last].concat()).to_vec()
 }

@@ -469,7 +469,7 @@ fn large(random: &mut Random, draft: &Draft) -> Vec<u8> {
 
 /// Answers that are never asked, up to so many octets; the last few octets may
 /// be left over.
-fn fill(sheet: &mut Vec<u8>, octets: usize, number: &mut usize) {
+pub(super) fn fill(sheet: &mut Vec<u8>, octets: usize, number: &mut usize) {
     while sheet.len() < octets {
         let room = octets - sheet.len();
         *number += 1;
@@ -487,5 +487,28 @@ fn fill(sheet: &mut Vec<u8>, octets: usize, number: &mut usize) {
         let most = if room > 40_000 { 20_000 } else { room - 4 };
         body.resize(most, b'f');
         let _ = push_record(sheet, *b"AN", &body);
+    }
+}
+
+#[cfg(test)]
+mod tests {
+    use super::mutated;
+    use crate::random::Random;
+    use std::cmp::Ordering;
+
+    #[test]
+    fn mutations_change_cut_and_insert() {
+        let sheet: Vec<u8> = (0..=255).collect();
+        let (mut changed, mut cut, mut inserted) = (0, 0, 0);
+        for index in 0..200 {
+            let mut own = sheet.clone();
+            mutated(&mut Random::of(1, index), &mut own);
+            match own.len().cmp(&sheet.len()) {
+                Ordering::Less => cut += 1,
+                Ordering::Greater => inserted += 1,
+                Ordering::Equal => changed += usize::from(own != sheet),
+            }
+        }
+        assert!(changed > 10 && cut > 10 && inserted > 10);
     }
 }

@@ -1,97 +1,55 @@
 //! RFC 9989, appendix B, as readings table B says it comes out.
 
-use crate::common::{case, domain_of, tx, words, NONE, QUARANTINE, REJECT};
-use tools::evaluate::{Disposition, DmarcResult};
+use crate::common::{domain_of, run, tx, words};
+use tools::appendix_b::APPENDIX_B;
+use tools::evaluate::Verdict;
 use tools::policy::{read, rua_text, valid_entries, Policy, Request};
+use tools::sheet::verdict;
 use tools::txt::texts;
 
-const RELAXED: &str = "v=DMARC1; p=reject";
-const STRICT: &str = "v=DMARC1; p=reject; aspf=s; adkim=s";
+/// The sheet of the row whose name begins so.
+fn sheet(name: &str) -> Vec<u8> {
+    let mut rows = APPENDIX_B.iter().filter(|row| row.name.starts_with(name));
+    let row = rows.next().expect("a row");
+    assert!(rows.next().is_none(), "one row of {name}");
+    row.sheet().expect("a sheet")
+}
 
-#[test]
-fn b_1_1_example_1_strict_alignment() {
-    case("example.com")
-        .text("example.com", STRICT)
-        .spf("example.com")
-        .gives(
-            DmarcResult::Pass,
-            REJECT,
-            Disposition::None,
-            &["example.com"],
-        );
+fn verdict_of(name: &str) -> Verdict {
+    let (_, verdict) = verdict(&sheet(name)).expect("a verdict");
+    verdict
 }
 
 #[test]
-fn b_1_1_example_2_relaxed_alignment() {
-    let message = case("example.com").spf("child.example.com");
-    message.clone().text("example.com", RELAXED).gives(
-        DmarcResult::Pass,
-        REJECT,
-        Disposition::None,
-        &["example.com", "com", "child.example.com"],
-    );
-    message.text("example.com", STRICT).gives(
-        DmarcResult::Fail,
-        REJECT,
-        Disposition::Reject,
-        &["example.com"],
-    );
+fn each_row_gives_its_output() {
+    for row in APPENDIX_B {
+        let sheet = row.sheet().expect("a sheet");
+        assert_eq!(run(&sheet), row.output, "{}", row.name);
+        assert!(row.holds());
+    }
 }
 
 #[test]
-fn b_1_1_example_3_no_alignment() {
-    case("child.example.com")
-        .text("example.com", RELAXED)
-        .spf("example.net")
-        .gives(
-            DmarcResult::Fail,
-            REJECT,
-            Disposition::Reject,
-            &[
-                "child.example.com",
-                "example.com",
-                "com",
-                "example.net",
-                "net",
-            ],
-        );
-}
-
-#[test]
-fn b_1_2_dkim() {
-    case("example.com")
-        .text("example.com", STRICT)
-        .dkim("example.com")
-        .gives(
-            DmarcResult::Pass,
-            REJECT,
-            Disposition::None,
-            &["example.com"],
-        );
-    case("child.example.com")
-        .text("example.com", RELAXED)
-        .dkim("example.com")
-        .gives(
-            DmarcResult::Pass,
-            REJECT,
-            Disposition::None,
-            &["child.example.com", "example.com", "com"],
-        );
-    case("child.example.com")
-        .text("example.com", RELAXED)
-        .dkim("example.net")
-        .gives(
-            DmarcResult::Fail,
-            REJECT,
-            Disposition::Reject,
-            &[
-                "child.example.com",
-                "example.com",
-                "com",
-                "example.net",
-                "net",
-            ],
-        );
+fn every_part_of_b_1_to_b_4_has_a_row() {
+    for part in [
+        "B.1.1, example 1",
+        "B.1.1, example 2:",
+        "B.1.1, example 3",
+        "B.1.2, example 1",
+        "B.1.2, example 2",
+        "B.1.2, example 3",
+        "B.2.1",
+        "B.2.2",
+        "B.2.3",
+        "B.2.4",
+        "B.2.5: subdomain, testing",
+        "B.3.1",
+        "B.4.1",
+        "B.4.2",
+        "B.4.3",
+    ] {
+        assert!(!sheet(part).is_empty(), "{part}");
+    }
 }
 
 /// The text of a zone file entry's strings.
@@ -138,120 +96,23 @@ fn b_2_3_and_b_2_4_records_of_a_report_consumer() {
 }
 
 #[test]
-fn b_2_5_testing_and_multiple_uris() {
+fn b_2_5_multiple_uris() {
     let testing = "v=DMARC1; p=quarantine; rua=mailto:dmarc-feedback@example.com, \
                    mailto:tld-test@thirdparty.example.net; t=y";
     let rua = rua_text(testing.as_bytes());
     assert_eq!(valid_entries(rua).len(), 2);
-    case("test.example.com")
-        .text("test.example.com", testing)
-        .gives(
-            DmarcResult::Fail,
-            NONE,
-            Disposition::None,
-            &["test.example.com"],
-        );
-    let enforced = "v=DMARC1; p=reject; rua=mailto:dmarc-feedback@example.com, \
-                    mailto:tld-test@thirdparty.example.net";
-    case("test.example.com")
-        .text("test.example.com", enforced)
-        .gives(
-            DmarcResult::Fail,
-            REJECT,
-            Disposition::Reject,
-            &["test.example.com"],
-        );
-    // Published at the subdomain, it does not apply to its parent.
-    case("example.com")
-        .text("test.example.com", enforced)
-        .gives(
-            DmarcResult::None,
-            NONE,
-            Disposition::None,
-            &["example.com", "com"],
-        );
 }
 
 #[test]
-fn b_3_1_smtp_session() {
-    let text = "v=DMARC1; p=reject; aspf=r; rua=mailto:dmarc-feedback@example.com";
-    let verdict = case("example.com")
-        .text("example.com", text)
-        .spf("mail.example.com")
-        .dkim("example.com")
-        .gives(
-            DmarcResult::Pass,
-            REJECT,
-            Disposition::None,
-            &["example.com", "com", "mail.example.com"],
-        );
-    assert_eq!(words(&verdict.alignments), ["aligned", "aligned"]);
-}
-
-#[test]
-fn b_4_1_simple_organizational_and_policy_example() {
-    let verdict = case("example.com")
-        .text("example.com", "v=DMARC1; p=quarantine")
-        .text("signing.example.com", "v=DMARC1; p=none")
-        .spf("example.com")
-        .dkim("signing.example.com")
-        .gives(
-            DmarcResult::Pass,
-            QUARANTINE,
-            Disposition::None,
-            &["example.com", "com", "signing.example.com"],
-        );
-    assert_eq!(words(&verdict.alignments), ["aligned", "aligned"]);
-    assert_eq!(domain_of(&verdict), "example.com");
-}
-
-#[test]
-fn b_4_2_deep_tree_walk_example() {
-    let author = "a.b.c.d.e.f.g.h.i.j.k.example.com";
-    let verdict = case(author)
-        .text("example.com", "v=DMARC1; p=quarantine")
-        .text("signing.example.com", "v=DMARC1; p=none")
-        .spf("example.com")
-        .dkim("signing.example.com")
-        .gives(
-            DmarcResult::Pass,
-            QUARANTINE,
-            Disposition::None,
-            &[
-                author,
-                "g.h.i.j.k.example.com",
-                "h.i.j.k.example.com",
-                "i.j.k.example.com",
-                "j.k.example.com",
-                "k.example.com",
-                "example.com",
-                "com",
-                "signing.example.com",
-            ],
-        );
-    assert_eq!(words(&verdict.alignments), ["aligned", "aligned"]);
-    assert_eq!(domain_of(&verdict), "example.com");
-}
-
-#[test]
-fn b_4_3_example_with_a_psd_policy_record() {
-    let verdict = case("giant.bank.example")
-        .text("giant.bank.example", "v=DMARC1; p=quarantine")
-        .text("bank.example", "v=DMARC1; p=reject; psd=y")
-        .spf("mail.giant.bank.example")
-        .dkim("mail.mega.bank.example")
-        .gives(
-            DmarcResult::Pass,
-            QUARANTINE,
-            Disposition::None,
-            &[
-                "giant.bank.example",
-                "bank.example",
-                "mail.giant.bank.example",
-                "mail.mega.bank.example",
-                "mega.bank.example",
-            ],
-        );
-    assert_eq!(words(&verdict.alignments), ["aligned", "not aligned"]);
-    assert_eq!(domain_of(&verdict), "giant.bank.example");
+fn alignments_and_policy_domains() {
+    for (name, alignments, domain) in [
+        ("B.3.1", ["aligned", "aligned"], "example.com"),
+        ("B.4.1", ["aligned", "aligned"], "example.com"),
+        ("B.4.2", ["aligned", "aligned"], "example.com"),
+        ("B.4.3", ["aligned", "not aligned"], "giant.bank.example"),
+    ] {
+        let verdict = verdict_of(name);
+        assert_eq!(words(&verdict.alignments), alignments, "{name}");
+        assert_eq!(domain_of(&verdict), domain, "{name}");
+    }
 }

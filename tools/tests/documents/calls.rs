@@ -32,9 +32,9 @@ fn start(existence: u8, support: u8, author: &[u8], identifiers: &[Vec<u8>]) -> 
     [&head, author, &identifiers.concat()].concat()
 }
 
-/// A 16-bit length, kind, outcome, domain.
+/// A mark, a 16-bit length, kind, outcome, domain.
 fn item(kind: u8, outcome: u8, domain: &[u8]) -> Vec<u8> {
-    let head = [0, domain.len() as u8 + 2, kind, outcome];
+    let head = [b'I', b'D', 0, domain.len() as u8 + 2, kind, outcome];
     [head.as_slice(), domain].concat()
 }
 
@@ -205,7 +205,7 @@ fn refused_starts() {
     let with =
         |front: &[&[u8]], last: &[u8]| start(1, 1, b"other.test", &[front.concat(), last.to_vec()]);
     let authored = |author: &[u8]| start(1, 1, author, &[item(1, 1, b"example.com")]);
-    let table: [(Vec<u8>, &str); 16] = [
+    let table: [(Vec<u8>, &str); 19] = [
         // "0 if empty", and where the first bad label begins.
         (authored(b""), "1 at 0"),
         (authored(b"com."), "1 at 4"),
@@ -225,12 +225,16 @@ fn refused_starts() {
         (with(&[&sixteen], &bad), "4 at 16"),
         (with(&[&sixteen], &item(2, 1, b"a.b")), "3 at 16"),
         (with(&[&good, &bad], &item(9, 9, b"")), "2 at 1"),
+        // The mark is not looked at.
+        (with(&[b"AN\0\x05\x01\x01a.b"], &bad), "2 at 1"),
         // Cut: a number that is not there is not listed, and a domain that is
         // not there whole is empty.
-        (with(&[&good], &[0]), "3 at 1"),
-        (with(&[], &[0, 2, 1, 1]), "2 at 0"),
-        (with(&[&good], &[0, 200, 1, 1, b'a']), "2 at 1"),
-        (with(&[&spf], &[0, 200, 0, 1, b'a']), "4 at 1"),
+        (with(&[&good], b"I"), "3 at 1"),
+        (with(&[], b"ID"), "3 at 0"),
+        (with(&[&good], b"ID\0"), "3 at 1"),
+        (with(&[], b"ID\0\x02\x01\x01"), "2 at 0"),
+        (with(&[&good], b"ID\0\xc8\x01\x01a"), "2 at 1"),
+        (with(&[&spf], b"ID\0\xc8\0\x01a"), "4 at 1"),
     ];
     for (body, refusal) in table {
         let found = calls.iter().find(|call| call.0 == b'S' && call.1 == body);

@@ -74,6 +74,12 @@ pub fn run(sheet: &[u8]) -> String {
     String::from_utf8(tools::sheet::run(sheet)).expect("an output in ASCII")
 }
 
+/// A file that a program of the repository has beside it.
+pub fn stored(path: &str) -> Vec<u8> {
+    let path = format!("{}/../crates/{path}", env!("CARGO_MANIFEST_DIR"));
+    std::fs::read(path).expect("a stored file")
+}
+
 /// A message and its answers; all else answers none.
 #[derive(Clone)]
 pub struct Case {

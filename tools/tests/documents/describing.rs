@@ -84,58 +84,134 @@ fn quoted_texts() {
     }
 }
 
-/// Lines that are in error after an author line.
-const BAD_LINES: &[&str] = &[
-    "spf pass",
-    "spf none b",
-    "id kind=1 b",
-    "answer b",
-    "answer b nothing",
-    "answer b \"open",
-    "answer b \"\\q\"",
-    "answer b \"\\xg0\"",
-    "answer b \"a\" +",
-    "answer b + \"a\"",
-    "answer b \"a\" + + \"b\"",
-    "answer b none none",
-    "answer b hex 545",
-    "answer a..b none",
-    "answer hex: none",
-    "author b exists supported",
-    "sheet hex 00",
-    "\"author\" a",
-    "what",
+const ANSWER_FORMS: &str = "an answer is none, error, quoted texts, or hex and its digits";
+const ITEMS: &str = "a line begins with author, spf, dkim, id, answer or sheet";
+
+/// Lines that are in error after an author line and an empty one, with what is
+/// wrong.
+const BAD_LINES: &[(&str, &str)] = &[
+    ("spf pass", "an identifier takes an outcome and a domain"),
+    ("dkim", "an identifier takes an outcome and a domain"),
+    ("spf none b", "the outcome is one of fail, pass, temperror"),
+    ("dkim pass \"b\"", "a domain is not quoted"),
+    ("dkim pass hex:0g", "not a hex digit"),
+    ("id kind=1 b", "id takes a kind, an outcome and a domain"),
+    (
+        "id kind=1 outcome=x b",
+        "`outcome=` and a number from 0 to 255 expected",
+    ),
+    (
+        "id kind=256 outcome=1 b",
+        "`kind=` and a number from 0 to 255 expected",
+    ),
+    ("answer", "answer takes a name and what was answered"),
+    ("answer b", ANSWER_FORMS),
+    ("answer b nothing", ANSWER_FORMS),
+    ("answer b none none", ANSWER_FORMS),
+    ("answer b \"a\" +", ANSWER_FORMS),
+    ("answer b + \"a\"", ANSWER_FORMS),
+    ("answer b \"a\" + + \"b\"", ANSWER_FORMS),
+    ("answer b \"open", "a quoted text is not closed"),
+    ("answer b \"\\q\"", "the escapes are \\\", \\\\ and \\xHH"),
+    ("answer b \"\\xg0\"", "not a hex digit"),
+    ("answer b hex 545", "an odd number of hex digits"),
+    ("answer b hex \"54\"", "a quoted text after `hex`"),
+    ("answer a..b none", "the name breaks the domain rule"),
+    ("answer hex: none", "the name breaks the domain rule"),
+    ("answer hex:6120 none", "the name breaks the domain rule"),
+    ("author b exists supported", "a second author line"),
+    ("sheet hex 00", "`sheet` stands alone in a description"),
+    (
+        "\"author\" a",
+        "an item begins with a word, not with a quoted text",
+    ),
 ];
 
-/// The line number of an error, which is `line N: reason`.
-fn line_of(description: &str) -> usize {
-    let error = made(description).expect_err("an error");
-    let parts = error
-        .strip_prefix("line ")
-        .and_then(|rest| rest.split_once(": "));
-    let (number, reason) = parts.expect("`line N: reason`");
-    assert!(!reason.is_empty());
-    number.parse().expect("a line number")
+/// Whole descriptions that are in error.
+const BAD_DESCRIPTIONS: &[(&str, &str)] = &[
+    ("", "line 1: the description has no author line"),
+    (
+        "# nothing\n\n",
+        "line 1: the description has no author line",
+    ),
+    ("spf pass b", "line 1: the author line comes first"),
+    (
+        "\nspf pass b\nauthor a exists supported",
+        "line 2: the author line comes first",
+    ),
+    (
+        "\nauthor a exists\n",
+        "line 2: author takes a domain, its existence and whether rejecting is supported",
+    ),
+    (
+        "author a here supported",
+        "line 1: the existence is one of missing, exists, unknown",
+    ),
+    (
+        "author a exists maybe",
+        "line 1: the support is one of unsupported, supported",
+    ),
+    (
+        "author a existence=256 support=1",
+        "line 1: `existence=` and a number from 0 to 255 expected",
+    ),
+    (
+        "author hex:4 exists supported",
+        "line 1: an odd number of hex digits",
+    ),
+    (
+        "author a exists supported\nanswer b none\nspf pass b",
+        "line 3: identifiers come before answers",
+    ),
+    (
+        "author a exists supported\nanswer b none\n# again\nanswer B error",
+        "line 4: the name is answered already",
+    ),
+    ("sheet 00", "line 1: `hex` expected"),
+    (
+        "sheet hex 00\nauthor a exists supported",
+        "line 2: `sheet` stands alone in a description",
+    ),
+];
+
+#[test]
+fn errors_name_their_line_and_what_is_wrong() {
+    for (line, reason) in BAD_LINES {
+        let description = format!("author a exists supported\n\n{line}\n");
+        assert_eq!(
+            made(&description),
+            Err(format!("line 3: {reason}")),
+            "{line}"
+        );
+    }
+    for (description, error) in BAD_DESCRIPTIONS {
+        assert_eq!(made(description), Err(error.to_string()), "{description}");
+    }
 }
 
 #[test]
-fn errors_name_their_line() {
+fn an_unknown_item_is_shown_in_plain_characters() {
+    let unknown = |item: &str| Err(format!("line 1: unknown item `{item}`; {ITEMS}"));
+    assert_eq!(made("what is this"), unknown("what"));
+    assert_eq!(make(b"AU\0\xff"), unknown("AU\\x00\\xff"));
+}
+
+#[test]
+fn parts_that_are_too_long() {
     let author = "author a exists supported\n";
-    assert_eq!(line_of(""), 1);
-    assert_eq!(line_of("\nauthor a exists\n"), 2);
-    assert_eq!(line_of("author a here supported"), 1);
-    assert_eq!(line_of("author a existence=256 support=1"), 1);
-    assert_eq!(line_of("author hex:4 exists supported"), 1);
-    for bad in BAD_LINES {
-        assert_eq!(line_of(&format!("{author}\n{bad}\n")), 3, "{bad}");
-    }
-    assert_eq!(line_of("spf pass b\nauthor a exists supported"), 1);
-    assert_eq!(line_of(&format!("{author}answer b none\nspf pass b")), 3);
-    assert_eq!(
-        line_of(&format!("{author}answer b none\nanswer B error")),
-        3
-    );
-    assert_eq!(line_of("sheet hex 00\nauthor a exists supported"), 2);
+    let name = format!("{author}answer {} none", "b".repeat(256));
+    let error = Err("line 2: the name is over 255 octets".to_string());
+    assert_eq!(made(&name), error);
+    let text = format!("{author}answer b \"{}\"", "x".repeat(65_536));
+    let error = Err("line 2: a record is over 65535 octets".to_string());
+    assert_eq!(made(&text), error);
+    let texts = format!(" \"{}\"", "x".repeat(40_000)).repeat(2);
+    let error = Err("line 2: longer than the 65535 octets of a sheet record".to_string());
+    assert_eq!(made(&format!("{author}answer b{texts}")), error);
+    let answers = |name: &str| format!("answer {name} \"{}\"\n", "x".repeat(40_000));
+    let sheet = format!("{author}{}{}", answers("b"), answers("c"));
+    let error = Err("line 3: the sheet is over 65536 octets".to_string());
+    assert_eq!(made(&sheet), error);
 }
 
 #[test]

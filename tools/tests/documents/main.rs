@@ -3,16 +3,23 @@
 
 mod common;
 
+mod agreement;
 mod answers;
 mod appendix_b;
 mod book;
 mod calls;
+mod commands;
+mod coverage;
 mod describing;
 mod disposition;
+mod examples;
+mod explaining;
 mod generator;
 mod marked;
+mod messages;
 mod policy_text;
 mod report;
+mod script;
 mod sheets;
 mod starting;
 mod timing;

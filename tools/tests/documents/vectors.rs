@@ -3,7 +3,7 @@
 
 use std::collections::BTreeMap;
 
-use crate::common::tx;
+use crate::common::{stored, tx};
 use tools::vectors::files;
 
 /// Kind and body of each case, with its line.
@@ -309,13 +309,7 @@ fn the_same_files_each_time() {
 #[test]
 fn the_stored_files_are_these() {
     let (octets, text) = files().expect("cases that fit their lengths");
-    let stored = |name: &str| {
-        let path = format!("{}/../crates/vectors/{name}", env!("CARGO_MANIFEST_DIR"));
-        std::fs::read(path).expect("a stored file")
-    };
-    assert!(stored("stdin") == octets, "crates/vectors/stdin");
-    assert!(
-        stored("stdout") == text.into_bytes(),
-        "crates/vectors/stdout"
-    );
+    assert!(stored("vectors/stdin") == octets, "vectors/stdin");
+    let expected = text.into_bytes();
+    assert!(stored("vectors/stdout") == expected, "vectors/stdout");
 }
