@@ -1,16 +1,18 @@
--- What holds of the book after every list of calls.
+-- What holds of the book book-after every list of calls.
 use mathlib.Core.Path.{_≡_, refl, ap, ap₂, sym, _∙_, subst}
 use mathlib.Core.List.{List, [], _∷_, _++_, append-assoc, append-nil}
 use mathlib.Core.Bool.{Bool, true, false, false≢true}
 use mathlib.Core.Option.{Option, none as nothing, some as just, Option·none-ne-some, Option·some-injective}
 use Prim.Native.Nat.{_+_, _*_, _≤_}
 use lib.Dec.{leb}
+use borrow.Author.Tests.{le-leb}
+use Rattle.octets.proofs.TextLaws.{same-self}
 use lib.ListN.{length}
-use Rattle.octets.specs.Octets.{Octets, same-text, if_then_else_}
+use Rattle.octets.specs.Octets.{Octets, same, lower, is-nothing, same-text, if_then_else_}
 use Rattle.octets.specs.Refusing.{refusal}
 use Rattle.octets.specs.declared.Refusal.{Refusal}
 use Rattle.octets.specs.declared.Written.{Written}
-use Rattle.octets.specs.Lent.{written-or}
+use Rattle.octets.specs.Lent.{over, fits, written, left, written-or, left-or}
 use Rattle.lookup.specs.Lookup.{Answers, Name, names, find, member, once, path, list, Standing, needs, has, run-over, Grown, start, grow, Completes}
 use Rattle.lookup.specs.Claims.{Distinct, Ends, now, later}
 use Rattle.lookup.proofs.NameLaws.{once-new, once-seen, once-distinct, member-last}
@@ -18,11 +20,12 @@ use Rattle.lookup.proofs.RunLaws.{asked-so-far, names-append, needs-injective, 
 use Rattle.lookup.proofs.ReadingLaws.{list-reading}
 use Rattle.txt.specs.declared.Status.{Status}
 use Rattle.txt.specs.Answers.{Answer, answer-of, texts, scratch-after, reply}
+use Rattle.walk.proofs.Claimed.{walk-claims}
 use Rattle.verdict.specs.Message.{Message}
 use Rattle.verdict.specs.Verdict.{Verdict, evaluate, separate-walks}
 use Rattle.book.specs.Book.{Call, next, result, answer, field, Back, ask-name, verdict, accepted, wrote, refused, Given, given, Book, opened, with-asked, kept, standing, or-error, count, next-by, book-next, answer-kept, answer-asked, book-answer, result-by, book-result, field-by, field-of, back-of, book-field, book-call, transcript, leaves}
 use Rattle.verdict.specs.Claims.{walked-domains, AskedAtMost}
-use Rattle.book.specs.BookClaims.{after, given-name, given-names, now-asked, asked-names, NoVerdictYet, Comes, arrived, goes-on, BookClaims}
+use Rattle.book.specs.BookClaims.{lent, book-after, given-name, given-names, now-asked, asked-names, NoVerdictYet, Comes, arrived, goes-on, BookClaims}
 use Rattle.verdict.proofs.Bounds.{asked-at-most}
 
 -- ------------------------------------------------------------------ the answers came by asking
@@ -90,13 +93,13 @@ unfolding leaves
 leaves-snoc b [] c = refl
 leaves-snoc b (d ∷ cs) c = leaves-snoc (book-call b d .0) cs c
 
--- the book after one call more
-pub after-snoc : (m : Message) (cs : List Call) (c : Call) → after m (cs ++ (c ∷ [])) ≡ book-call (after m cs) c .0
-unfolding after
+-- the book book-after one call more
+pub after-snoc : (m : Message) (cs : List Call) (c : Call) → book-after m (cs ++ (c ∷ [])) ≡ book-call (book-after m cs) c .0
+unfolding book-after
 after-snoc m cs c = leaves-snoc (opened m) cs c
 
-pub kept-after : (m : Message) (cs : List Call) → Kept (after m cs)
-unfolding after
+pub kept-after : (m : Message) (cs : List Call) → Kept (book-after m cs)
+unfolding book-after
 kept-after m cs = kept-calls (opened m) (kept-opened m) cs
 
 -- ------------------------------------------------------------------ the names asked
@@ -167,8 +170,8 @@ unfolding leaves transcript given-names once AddsName
 adds-calls b κ [] = sym (append-nil (asked-names b))
 adds-calls b κ (c ∷ cs) = adds-calls (book-call b c .0) (kept-call b κ c) cs ∙ adds-call b κ c (given-names (transcript book-call (book-call b c .0) cs))
 
-asked-given : (m : Message) (cs : List Call) → asked-names (after m cs) ≡ once [] (given-names (transcript book-call (opened m) cs))
-unfolding after asked-names now-asked names opened
+asked-given : (m : Message) (cs : List Call) → asked-names (book-after m cs) ≡ once [] (given-names (transcript book-call (opened m) cs))
+unfolding book-after asked-names now-asked names opened
 asked-given m cs = adds-calls (opened m) (kept-opened m) cs
 
 -- ------------------------------------------------------------------ the message stays
@@ -190,8 +193,8 @@ unfolding leaves
 message-calls b [] = refl
 message-calls b (c ∷ cs) = message-calls (book-call b c .0) cs ∙ message-call b c
 
-pub message-after : (m : Message) (cs : List Call) → after m cs .message ≡ m
-unfolding after opened
+pub message-after : (m : Message) (cs : List Call) → book-after m cs .message ≡ m
+unfolding book-after opened
 message-after m cs = message-calls (opened m) cs
 
 -- ------------------------------------------------------------------ an error for every missing answer
@@ -215,7 +218,7 @@ count-answered b κ v e = ap length (has-list (separate-walks (b .message)) (or-
 
 module _ (m : Message) (cs : List Call) where
   b : Book
-  b = after m cs
+  b = book-after m cs
 
   stands-at : (u : Standing Verdict) → standing b ≡ u → run-over (b .answers) (separate-walks m) ≡ u
   unfolding standing b
@@ -314,22 +317,78 @@ comes-from m β a (later n e f) = goes-on n (ap (λ (x : Book × Given). x .1 .b
         same-book : book-answer asking name status bytes scratch .0 ≡ book m (β ++ ((n, answer-of status bytes) ∷ [])) nothing
         same-book = held .1 ∙ ap₂ (λ x y. kept x y (answer-of status bytes)) asks-n same-name
 
-comes-after : (m : Message) (cs : List Call) → Comes (after m cs)
+comes-after : (m : Message) (cs : List Call) → Comes (book-after m cs)
 unfolding book
-comes-after m cs = comes-from (after m cs .message) (after m cs .answers) (after m cs .asked) (ends (separate-walks (after m cs .message)) (after m cs .answers))
+comes-after m cs = comes-from (book-after m cs .message) (book-after m cs .answers) (book-after m cs .asked) (ends (separate-walks (book-after m cs .message)) (book-after m cs .answers))
+
+-- ------------------------------------------------------------------ accepted, and refused
+
+accepted-now : (b : Book) (n : Name) → b .asked ≡ just n → (status : Status) (bytes scratch : Octets) → is-nothing (texts (answer-of status bytes)) ≡ false → 4096 ≤ length scratch
+    → book-answer b n status bytes scratch .1 .back ≡ accepted
+unfolding book-answer answer-asked answer-kept same-text is-nothing
+accepted-now b n e status bytes scratch h k = rw (e, same-self (lower n)) (go (record { message = b .message; answers = b .answers; asked = just n }) (texts (answer-of status bytes)) h)
+  where
+    go : (b : Book) (o : Option (List Octets)) → is-nothing o ≡ false → answer-kept b n (answer-of status bytes) scratch o .1 .back ≡ accepted
+    go b nothing f = absurd (false≢true (sym f))
+    go b (just ts) f = rw (le-leb 4096 (length scratch) k)
+
+is-refused : Back → Bool
+is-refused (ask-name n) = false
+is-refused (verdict v c) = false
+is-refused accepted = false
+is-refused (wrote n) = false
+is-refused (refused r) = true
+
+Stands : Book → Octets → Book × Given → Type 0
+Stands b s x = is-refused (x .1 .back) ≡ true → (x .0 ≡ b) × (x .1 .memory ≡ s)
+
+stands-next : (b : Book) (u : Standing Verdict) → Stands b [] (next-by b u)
+unfolding Stands next-by is-refused
+stands-next b (needs n) h = absurd (false≢true h)
+stands-next b (has v) h = absurd (false≢true h)
+
+stands-result : (b : Book) (u : Standing Verdict) → Stands b [] (b, result-by b u)
+unfolding Stands result-by is-refused
+stands-result b (needs n) h = (refl, refl)
+stands-result b (has v) h = absurd (false≢true h)
+
+stands-field : (b : Book) (u : Standing Verdict) (output : Octets) → Stands b output (b, field-by b u output)
+unfolding Stands field-by written-or left-or back-of written left is-refused
+stands-field b (needs n) output h = (refl, refl)
+stands-field b (has v) output h = (refl, go (field-of (b .message) v) h)
+  where
+    go : (o : Option Octets) → is-refused (back-of (written-or o (refusal 9 0) output)) ≡ true → left-or o output ≡ output
+    go nothing h = refl
+    go (just t) h = fit (fits t output) h
+      where
+        fit : (f : Bool) → is-refused (back-of (if f then Written.Wrote (length t) else Written.Refused (refusal 10 (length t)))) ≡ true → (if f then over t output else output) ≡ output
+        fit true h = absurd (false≢true h)
+        fit false h = refl
+
+stands-call : (b : Book) (c : Call) → Stands b (lent c) (book-call b c)
+unfolding book-call book-next book-result book-field lent Stands is-refused
+stands-call b next = stands-next b (standing b)
+stands-call b result = stands-result b (standing b)
+stands-call b (field output) = stands-field b (standing b) output
+stands-call b (answer name status bytes scratch) =
+    answer-cases (Stands b scratch) b name status bytes scratch (λ r h. (refl, refl)) (λ n ts e h. absurd (false≢true h))
 
 pub book-claims : (m : Message) (cs : List Call) → BookClaims m cs
-unfolding b
+unfolding b Stands is-refused
 book-claims m cs = record {
   asked = asked-given m cs;
   each-once = subst Distinct (sym (asked-given m cs)) (once-distinct [] (given-names (transcript book-call (opened m) cs)));
   at-verdict = all-asked m cs;
-  that-verdict = λ v e α agrees. has-value α (after m cs .answers) agrees (separate-walks m) v (stands-at m cs (has v) e);
+  that-verdict = λ v e α agrees. has-value α (book-after m cs .answers) agrees (separate-walks m) v (stands-at m cs (has v) e);
   counted = count-is m cs;
   bounded = bounded-by m cs;
+  each-walk = walk-claims .at-most-eight (λ n. reply (or-error (book-after m cs .answers) n));
   until-then = first-asked m cs;
   comes = comes-after m cs;
-  not-before = λ n e α agrees. needs-short (separate-walks m) α n (grown-after m cs) agrees (stands-at m cs (needs n) e);
+  not-after = λ n e α agrees. needs-short (separate-walks m) α n (grown-after m cs) agrees (stands-at m cs (needs n) e);
+  answered = λ v e α agrees. has-list (separate-walks m) α v (grown-after m cs) agrees (stands-at m cs (has v) e);
+  accepts = accepted-now (book-after m cs);
+  refused-stands = λ c r e. stands-call (book-after m cs) c (ap is-refused e);
 }
 
 -- ------------------------------------------------------------------ no verdict while a name lacks an answer

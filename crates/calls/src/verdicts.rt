@@ -1,5 +1,6 @@
 // The lines of the next step and of the result.
 use cases::lines;
+use domain::Octet;
 use evaluation::Evaluation;
 use evaluation::Resulting;
 use evaluation::Step;
@@ -16,22 +17,22 @@ const MOST: usize = 253;
 // What was written into the front of memory.
 fn print_front(w: Written, memory: &[u8]) {
     match w {
-        Written::Wrote(n) => lines::print(text::part(memory, 0, n)),
+        Written::Wrote(n) => lines::print(text_parts::part(memory, 0, n)),
         Written::Refused(refusal) => lines::print_refusal(refusal),
     }
 }
 
 // The name that a walk and a place mark.
-fn print_name(e: Evaluation, walk: usize, place: usize) {
+fn print_name(e: Evaluation, walk: usize, place: Octet) {
     let mut memory = [0; MOST];
-    let written = evaluation::write_name(e, walk, place, &mut memory);
+    let written = evaluation_state::write_name(e, walk, place, &mut memory);
     print_front(written, &memory);
 }
 
 // The domain that begins at a place of the author's.
-fn print_domain(e: Evaluation, begin: usize) {
+fn print_domain(e: Evaluation, begin: Octet) {
     let mut memory = [0; MOST];
-    let written = evaluation::write_domain(e, 0, begin, &mut memory);
+    let written = evaluation_state::write_domain(e, 0, begin, &mut memory);
     print_front(written, &memory);
 }
 

@@ -1,4 +1,8 @@
 // The pieces of the printed lines.
+ghost use mathlib.Core.Bool.{false};
+ghost use mathlib.Core.Path.{_≡_};
+ghost use lib.ListN.{length};
+ghost use Rattle.cases.specs.code.Sums.{used, weighed};
 use crate::bodies;
 use libc::STDOUT_FILENO;
 use octets::Refusal;
@@ -27,7 +31,9 @@ pub fn print(text: &[u8]) {
 }
 
 // Says that a case cannot be read. The program does not go on then.
-pub fn refuse_case() -> bool {
+pub fn refuse_case() -> bool
+    ensures { λ r. ⌜ r ≡ false ⌝ }
+{
     print(b"bad case\n");
     false
 }
@@ -168,7 +174,9 @@ pub fn print_written(w: Written) {
 }
 
 // How many octets of lent memory are used: up to the last one that is not as it was lent.
-fn used_length(lent: &[u8]) -> usize {
+fn used_length(lent: &[u8]) -> usize
+    ensures { λ r. ⌜ r ≡ used (length (now (lent .entry))) (now (lent .entry)) ⌝ }
+{
     let mut end = lent.len();
     while 0 < end {
         let last = end - 1;
@@ -181,7 +189,9 @@ fn used_length(lent: &[u8]) -> usize {
 }
 
 // The sum over all octets of their number, from 1, times their value. Octet n is in `later` at n places.
-fn weigh(lent: &[u8]) -> usize {
+fn weigh(lent: &[u8]) -> usize
+    ensures { λ r. ⌜ r ≡ weighed (length (now (lent .entry))) (now (lent .entry)) 0 0 ⌝ }
+{
     let mut sum = 0;
     let mut later = 0;
     let mut end = lent.len();
@@ -204,13 +214,13 @@ pub fn print_sums(lent: &[u8]) {
 pub fn print_octets(lent: &[u8]) {
     print_sums(lent);
     print(b":");
-    print_hex(text::part(lent, 0, text::smaller(used_length(lent), SHOWN)));
+    print_hex(text_parts::part(lent, 0, text_parts::smaller(used_length(lent), SHOWN)));
 }
 
 // A file name: its sums, and what is used as it is.
 pub fn print_name(out: &[u8]) {
     print_sums(out);
     print(b":");
-    print(text::part(out, 0, used_length(out)));
+    print(text_parts::part(out, 0, used_length(out)));
     print(b"\n");
 }

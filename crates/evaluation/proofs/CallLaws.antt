@@ -1,7 +1,7 @@
 -- Laws of the calls: what an evaluation holds after each, and what each gives.
-use mathlib.Core.Path.{_≡_, refl, ap, _∙_}
+use mathlib.Core.Path.{_≡_, refl, ap, sym, _∙_}
 use mathlib.Core.List.{List, [], _∷_, _++_}
-use mathlib.Core.Bool.{Bool, true, false, and-false, false≢true}
+use mathlib.Core.Bool.{Bool, true, false, _&&_, and-false, false≢true}
 use mathlib.Core.Option.{Option, none as nothing, some as just}
 use Prim.Native.Nat.{ℕ, zero, suc, _+_, _*_, _-_, _≤_, _<_, min}
 use native.Mathlib.Omega.{arith}
@@ -15,43 +15,44 @@ use Rattle.octets.specs.declared.Refusal.{Refusal}
 use Rattle.octets.specs.declared.Written.{Written}
 use Rattle.octets.specs.Lent.{WritesOr}
 use Rattle.lookup.specs.Lookup.{Name}
+use Rattle.domain.specs.declared.Octet.{Octet}
 use Rattle.domain.specs.Domain.{asked-name}
-use Rattle.domain.proofs.NameLaws.{clipped}
+use Rattle.octets.proofs.PartLaws.{clipped}
 use Rattle.txt.specs.declared.Status.{Status}
 use Rattle.txt.specs.declared.Reply.{Reply}
 use Rattle.txt.specs.declared.Taken.{Taken}
 use Rattle.txt.specs.Answers.{answer-of}
 use Rattle.txt.specs.Taking.{taken, left-after, Takes}
-use Rattle.replies.specs.Codes.{reply-code, reply-of}
-use Rattle.walk.specs.Kept.{kept-answers}
-use Rattle.replies.proofs.CodeLaws.{reply-back}
-use Rattle.alignment.specs.Stored.{number-at, slot}
-use Rattle.verdict.specs.declared.Judgement.{Judgement}
-use Rattle.verdict.specs.declared.Judged.{Judged}
+use Rattle.txt_codes.specs.code.Codes.{reply-code, reply-of}
+use Rattle.walk_look.specs.code.Kept.{kept-answers}
+use Rattle.txt_codes.proofs.CodeLaws.{reply-back}
+use Rattle.alignment_stored.specs.code.Stored.{number-at, slot}
+use Rattle.verdict_apply.specs.declared.Judgement.{Judgement}
+use Rattle.verdict_apply.specs.declared.Judged.{Judged}
 use Rattle.verdict.specs.Verdict.{Verdict}
-use Rattle.verdict.specs.Judging.{verdict-in, judged-standing}
+use Rattle.verdict_apply.specs.code.Judging.{verdict-in, judged-standing}
 use Rattle.evaluation.specs.declared.Evaluation.{Evaluation}
 use Rattle.evaluation.specs.declared.Step.{Step}
 use Rattle.evaluation.specs.declared.Resulting.{Resulting}
 use Rattle.evaluation.specs.declared.Acceptance.{Acceptance}
 use Rattle.book.specs.Book.{next, result, answer, field, given, refused, back-of, field-of}
-use Rattle.evaluation.proofs.StartLaws.{drop-take}
-use Rattle.evaluation.specs.View.{View, view, marked, begin-of-slot, asked-in, view-standing, asking, keeping, is-asked, has-room, view-taken, view-next-by, view-next, view-answer-asked, view-answer, view-result-by, view-result, view-field-by, view-field, view-call, Does, step-back, result-back, acceptance-back}
+use Rattle.octets.proofs.ListLaws.{drop-take}
+use Rattle.evaluation.specs.code.View.{View, view, marked, begin-of-slot, asked-in, view-standing, asking, keeping, is-asked, has-room, view-taken, view-next-by, view-next, view-answer-asked, view-answer, view-result-by, view-result, view-field-by, view-field, view-call, changing, Does, step-back, result-back, acceptance-back}
 
 -- ------------------------------------------------------------------ where nothing was started
 
 module _ (e : Evaluation) (s : e .started ≡ false) where
   pub next-not-started : Does e next e (given (step-back e (Step.Refused (refusal 7 0))) [])
   unfolding view-call view-next view step-back
-  next-not-started = record { leaves = rw s; gives = rw s }
+  next-not-started = record { leaves = rw s; gives = rw s; stands = λ x. refl; same-domains = (refl, refl) }
 
   pub result-not-started : Does e result e (given (result-back e (Resulting.Refused (refusal 7 0))) [])
   unfolding view-call view-result view result-back
-  result-not-started = record { leaves = refl; gives = rw s }
+  result-not-started = record { leaves = refl; gives = rw s; stands = λ x. refl; same-domains = (refl, refl) }
 
   pub field-not-started : (output : Octets) → Does e (field output) e (given (back-of (Written.Refused (refusal 7 0))) output)
   unfolding view-call view-field view back-of
-  field-not-started output = record { leaves = refl; gives = rw s }
+  field-not-started output = record { leaves = refl; gives = rw s; stands = λ x. refl; same-domains = (refl, refl) }
 
 -- ------------------------------------------------------------------ by where the evaluation stands
 
@@ -69,32 +70,32 @@ module _ (e : Evaluation) (s : e .started ≡ true) where
   field-standing output = rw s
 
   -- a name lacks an answer
-  module _ (walk place : ℕ) (h : judged-standing (e .domains) (e .numbers) (e .terms) (Judged.Missing walk place) ≡ view-standing (view e)) where
-    pub next-missing : (after : Evaluation) → view after ≡ asking (view e) (marked e walk place) → Does e next after (given (step-back e (Step.Ask walk place)) [])
-    unfolding judged-standing view-next-by step-back marked
-    next-missing after f = record { leaves = rw (next-standing, ← h) f; gives = rw (next-standing, ← h) }
+  module _ (walk : ℕ) (place : Octet) (h : judged-standing (e .domains) (e .numbers) (e .terms) (Judged.Missing walk place) ≡ view-standing (view e)) where
+    pub next-missing : (after : Evaluation) → view after ≡ asking (view e) (marked e walk place) → (after .domains ≡ e .domains) × (after .numbers ≡ e .numbers) → Does e next after (given (step-back e (Step.Ask walk place)) [])
+    unfolding judged-standing view-next-by step-back marked changing
+    next-missing after f d = record { leaves = rw (next-standing, ← h) f; gives = rw (next-standing, ← h); stands = λ x. absurd (false≢true (sym x)); same-domains = d }
 
     pub result-missing : Does e result e (given (result-back e (Resulting.Refused (refusal 7 0))) [])
     unfolding judged-standing view-result-by result-back
-    result-missing = record { leaves = rw result-standing; gives = rw (result-standing, ← h) }
+    result-missing = record { leaves = rw result-standing; gives = rw (result-standing, ← h); stands = λ x. refl; same-domains = (refl, refl) }
 
     pub field-missing : (output : Octets) → Does e (field output) e (given (back-of (Written.Refused (refusal 7 0))) output)
     unfolding judged-standing view-field-by back-of
-    field-missing output = record { leaves = rw (field-standing output); gives = rw (field-standing output, ← h) }
+    field-missing output = record { leaves = rw (field-standing output); gives = rw (field-standing output, ← h); stands = λ x. refl; same-domains = (refl, refl) }
 
   -- the verdict
   module _ (j : Judgement) (h : judged-standing (e .domains) (e .numbers) (e .terms) (Judged.Done j) ≡ view-standing (view e)) where
     pub next-verdict : (n : ℕ) → n ≡ length (view e .replies) → Does e next e (given (step-back e (Step.Verdict (record { judgement = j; count = n }))) [])
     unfolding judged-standing view-next-by step-back view
-    next-verdict n f = record { leaves = rw (next-standing, ← h); gives = rw (next-standing, ← h, f) }
+    next-verdict n f = record { leaves = rw (next-standing, ← h); gives = rw (next-standing, ← h, f); stands = λ x. refl; same-domains = (refl, refl) }
 
     pub result-verdict : (n : ℕ) → n ≡ length (view e .replies) → Does e result e (given (result-back e (Resulting.Verdict (record { judgement = j; count = n }))) [])
     unfolding judged-standing view-result-by result-back view
-    result-verdict n f = record { leaves = rw result-standing; gives = rw (result-standing, ← h, f) }
+    result-verdict n f = record { leaves = rw result-standing; gives = rw (result-standing, ← h, f); stands = λ x. refl; same-domains = (refl, refl) }
 
     pub field-verdict : (output left : Octets) (w : Written) → WritesOr (field-of (view e .message) (verdict-in (view e .message) j)) (refusal 9 0) output w left → Does e (field output) e (given (back-of w) left)
     unfolding judged-standing view-field-by view
-    field-verdict output left w f = record { leaves = rw (field-standing output); gives = rw (field-standing output, ← h, f .answers, f .leaves) }
+    field-verdict output left w f = record { leaves = rw (field-standing output); gives = rw (field-standing output, ← h, f .answers, f .leaves); stands = λ x. refl; same-domains = (refl, refl) }
 
 -- ------------------------------------------------------------------ kept answers
 
@@ -173,12 +174,12 @@ module _ (e : Evaluation) (full : length (e .kept) ≡ 408) where
   replies-length = kept-length (e .domains) (e .count) 136 (e .kept) full
 
   -- what is kept of an answer
-  pub reply-kept : e .count < 136 → (r : Reply) (begin size from at code : ℕ) → begin ≡ begin-of-slot (e .walk) → size ≡ length (slot (e .domains) (e .numbers) (e .walk)) → from ≡ min (e .place) size → at ≡ 3 * e .count → code ≡ reply-code r
+  pub reply-kept : e .count < 136 → (r : Reply) (begin size from at code : ℕ) → begin ≡ begin-of-slot (e .walk) → size ≡ length (slot (e .domains) (e .numbers) (e .walk)) → from ≡ min (e .place .0) size → at ≡ 3 * e .count → code ≡ reply-code r
       → kept-answers (e .domains) (e .count + 1) (set (set (set (e .kept) at (begin + from)) (at + 1) (begin + size)) (at + 2) code) ≡ keeping (view e) (marked e (e .walk) (e .place)) r .replies
   unfolding view keeping marked
   reply-kept h r begin size from at code b s f a c =
       kept-more (e .domains) (e .count) at (e .kept) (begin + from) (begin + size) code a (omega arith)
-      ∙ rw (mark-stored (e .domains) (e .numbers) (e .walk) (e .place) begin size from b s f, c, reply-back r)
+      ∙ rw (mark-stored (e .domains) (e .numbers) (e .walk) (e .place .0) begin size from b s f, c, reply-back r)
 
 -- ------------------------------------------------------------------ an answer
 
@@ -205,17 +206,26 @@ module _ (v : View) (name : Octets) (status : Status) (bytes scratch : Octets) w
   unfolding is-asked view-answer view-answer-asked has-room view-taken
   answer-taken n f h k = rw (f, rw f at h, k)
 
+-- whether a name is now asked, by what is stored
+pub asked-stored : (e : Evaluation) (name : Octets) → (e .asked && same-text name (asked-name (drop (e .place .0) (slot (e .domains) (e .numbers) (e .walk))))) ≡ is-asked (view e) name
+unfolding view is-asked asked-in marked
+asked-stored e name = go (e .asked)
+  where
+    go : (b : Bool) → (b && same-text name (marked e (e .walk) (e .place))) ≡ elim (asked-in e b) as (λ _. Bool) [ nothing ↦ false | just n ↦ same-text name n ]
+    go true = refl
+    go false = refl
+
 module _ (e : Evaluation) (name : Octets) (status : Status) (bytes scratch : Octets) where
   pub answer-not-now : is-asked (view e) name ≡ false → Does e (answer name status bytes scratch) e (given (acceptance-back (Acceptance.Refused (refusal 5 0))) scratch)
   unfolding view-call acceptance-back
-  answer-not-now h = record { leaves = rw (answer-not-asked (view e) name status bytes scratch h); gives = rw (answer-not-asked (view e) name status bytes scratch h) }
+  answer-not-now h = record { leaves = rw (answer-not-asked (view e) name status bytes scratch h); gives = rw (answer-not-asked (view e) name status bytes scratch h); stands = λ x. refl; same-domains = (refl, refl) }
 
   module _ (full : length (e .kept) ≡ 408) where
     pub answer-too-many : 136 ≤ e .count → Does e (answer name status bytes scratch) e (given (acceptance-back (Acceptance.Refused (refusal 5 0))) scratch)
     unfolding view-call acceptance-back has-room
     answer-too-many h =
         let room : has-room (view e) ≡ false = le-ltb (length (view e .replies)) 136 (omega (arith, replies-length e full)) in
-        record { leaves = rw (answer-no-room (view e) name status bytes scratch room); gives = rw (answer-no-room (view e) name status bytes scratch room) }
+        record { leaves = rw (answer-no-room (view e) name status bytes scratch room); gives = rw (answer-no-room (view e) name status bytes scratch room); stands = λ x. refl; same-domains = (refl, refl) }
 
     module _ (asked : is-asked (view e) name ≡ true) (few : e .count < 136) (t : Taken) (after : Octets) (takes : Takes (answer-of status bytes) scratch t after) where
       now-marked : view e .asked ≡ just (marked e (e .walk) (e .place))
@@ -235,9 +245,9 @@ module _ (e : Evaluation) (name : Octets) (status : Status) (bytes scratch : Oct
     module _ (asked : is-asked (view e) name ≡ true) (few : e .count < 136) (after : Octets) where
       pub answer-refused : (f : Refusal) → Takes (answer-of status bytes) scratch (Taken.Refused f) after → Does e (answer name status bytes scratch) e (given (acceptance-back (Acceptance.Refused f)) after)
       unfolding view-taken acceptance-back
-      answer-refused f takes = record { leaves = rw (answer-takes asked few (Taken.Refused f) after takes); gives = rw (answer-takes asked few (Taken.Refused f) after takes) }
+      answer-refused f takes = record { leaves = rw (answer-takes asked few (Taken.Refused f) after takes); gives = rw (answer-takes asked few (Taken.Refused f) after takes); stands = λ x. refl; same-domains = (refl, refl) }
 
       pub answer-accepted : (r : Reply) → Takes (answer-of status bytes) scratch (Taken.Reply r) after → (later : Evaluation) → view later ≡ keeping (view e) (marked e (e .walk) (e .place)) r
-          → Does e (answer name status bytes scratch) later (given (acceptance-back Acceptance.Accepted) after)
-      unfolding view-taken acceptance-back
-      answer-accepted r takes later h = record { leaves = rw (answer-takes asked few (Taken.Reply r) after takes) h; gives = rw (answer-takes asked few (Taken.Reply r) after takes) }
+          → (later .domains ≡ e .domains) × (later .numbers ≡ e .numbers) → Does e (answer name status bytes scratch) later (given (acceptance-back Acceptance.Accepted) after)
+      unfolding view-taken acceptance-back changing
+      answer-accepted r takes later h d = record { leaves = rw (answer-takes asked few (Taken.Reply r) after takes) h; gives = rw (answer-takes asked few (Taken.Reply r) after takes); stands = λ x. absurd (false≢true (sym x)); same-domains = d }

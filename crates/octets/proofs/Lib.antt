@@ -4,3 +4,6 @@ pub mod TextLaws
 pub mod LentLaws
 pub mod DecimalLaws
 pub mod Computing
+pub mod PartLaws
+pub mod RefusingLaws
+pub mod FramingLaws

@@ -1,17 +1,35 @@
 -- Laws of tests over lists, and over the octets of a text.
 use mathlib.Core.Path.{_≡_, refl}
 use mathlib.Core.List.{List, [], _∷_, _++_}
+use mathlib.Core.Option.{none as nothing, some as just}
 use mathlib.Core.Bool.{Bool, true, false, _&&_, _||_}
-use Prim.Native.Nat.{ℕ, _+_, _≤_, _<_}
+use Prim.Native.Nat.{ℕ, zero, suc, _+_, _-_, _≤_, _<_}
+use native.Mathlib.Omega.{arith}
 use native.Mathlib.Numerals.{add-one}
-use lib.ListN.{length, drop, getD, drop-of-length-le}
-use lib.Seq.{drop-cons}
+use lib.ListN.{length, take, drop, getD, drop-of-length-le}
+use lib.Seq.{drop-cons, take-nil}
 use Rattle.octets.specs.Octets.{Octets, any, all}
+use Rattle.octets.specs.Refusing.{numbered}
 
 pub any-append : {A : Type 0} (f : A → Bool) (a b : List A) → any f (a ++ b) ≡ (any f a || any f b)
 unfolding any
 any-append f [] b = refl
 any-append f (x ∷ a) b = elim (f x) as (λ t. (t || any f (a ++ b)) ≡ ((t || any f a) || any f b)) [ true ↦ refl | false ↦ any-append f a b ]
+
+-- ------------------------------------------------------------------ numbers of a list
+
+module _ {A : Type 0} where
+  pub numbered-in : (l : List A) (n : ℕ) (d : A) → n < length l → numbered l n ≡ just (getD l n d)
+  unfolding numbered
+  numbered-in [] n d h = absurd (omega arith)
+  numbered-in (a ∷ l) zero d h = refl
+  numbered-in (a ∷ l) (suc n) d h = numbered-in l n d (omega arith)
+
+  pub numbered-out : (l : List A) (n : ℕ) → length l ≤ n → numbered l n ≡ nothing
+  unfolding numbered
+  numbered-out [] n h = refl
+  numbered-out (a ∷ l) zero h = absurd (omega arith)
+  numbered-out (a ∷ l) (suc n) h = numbered-out l n (omega arith)
 
 -- ------------------------------------------------------------------ the octets of a text, one by one
 
@@ -23,3 +41,12 @@ module _ (f : ℕ → Bool) (s : Octets) (i : ℕ) where
   pub all-end : length s ≤ i → all f (drop i s) ≡ true
   unfolding all
   all-end h = rw (drop-of-length-le s h)
+
+-- ------------------------------------------------------------------ parts
+
+-- the end of a front part
+pub drop-take : (m n : ℕ) (s : Octets) → drop m (take n s) ≡ take (n - m) (drop m s)
+drop-take zero n s = let e : n - 0 ≡ n = omega arith in rw e
+drop-take (suc m) zero s = let e : 0 - suc m ≡ 0 = omega arith in rw e
+drop-take (suc m) (suc n) [] = rw take-nil
+drop-take (suc m) (suc n) (x ∷ s) = let e : suc n - suc m ≡ n - m = omega arith in rw e (drop-take m n s)

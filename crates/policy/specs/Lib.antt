@@ -2,5 +2,3 @@
 pub mod Tags
 pub mod Reports
 pub mod Records
-pub mod Tables
-pub mod Values

@@ -21,9 +21,9 @@ fn make_start(s: State, body: &[u8]) -> State {
     if body.len() < 3 {
         return s;
     }
-    let author = bodies::author_in(body);
-    let packed = bodies::packed_in(body);
-    let changed = evaluation::start(s.evaluation, author, body[0], body[1], packed);
+    let author = records_fields::name_in(text_parts::skip(body, 1));
+    let packed = records_fields::bytes(text_parts::skip(body, 1));
+    let changed = evaluation_start::start(s.evaluation, author, body[0], body[1], packed);
     let after = changed.evaluation;
     State {
         evaluation: after,
@@ -33,11 +33,11 @@ fn make_start(s: State, body: &[u8]) -> State {
 
 // An answer.
 fn make_answer(s: State, body: &[u8], scratch: &mut [u8]) -> State {
-    let changed = evaluation::answer(
+    let changed = evaluation_answer::answer(
         s.evaluation,
-        bodies::name_in(body),
-        bodies::status_of(bodies::octet_at(body, 0)),
-        bodies::bytes_in(body),
+        records_fields::name_in(text_parts::skip(body, 2)),
+        records_fields::status(body),
+        records_fields::bytes(text_parts::skip(body, 2)),
         scratch,
     );
     let after = changed.evaluation;
@@ -49,7 +49,7 @@ fn make_answer(s: State, body: &[u8], scratch: &mut [u8]) -> State {
 
 // The next step.
 fn make_step(s: State) -> State {
-    let stepped = evaluation::next(s.evaluation);
+    let stepped = evaluation_step::next(s.evaluation);
     let after = stepped.evaluation;
     let step = stepped.step;
     let count = match step {
@@ -67,7 +67,7 @@ fn make_call(s: State, call: &[u8], scratch: &mut [u8]) -> State {
     if call.len() < 3 {
         return s;
     }
-    let body = text::skip(call, 3);
+    let body = text_parts::skip(call, 3);
     match call[0] {
         b'S' => make_start(s, body),
         b'A' => make_answer(s, body, scratch),
@@ -81,25 +81,25 @@ fn run_message(calls: &[u8]) -> usize
 {
     let mut scratch = io::buffer();
     let mut state = State {
-        evaluation: evaluation::empty(),
+        evaluation: evaluation_state::empty(),
         count: 0,
     };
     let mut rest = calls;
     let mut turns = calls.len();
     while turns > 0 && 0 < rest.len() {
-        let end = 3 + bodies::pair_at(rest, 1);
-        state = make_call(state, text::part(rest, 0, end), &mut scratch);
-        let after = text::skip(rest, end);
+        let end = 3 + bodies::two_octets_at(rest, 1);
+        state = make_call(state, text_parts::part(rest, 0, end), &mut scratch);
+        let after = text_parts::skip(rest, end);
         rest = after;
         turns -= 1;
     }
-    text::smaller(state.count, MOST_NAMES)
+    text_parts::smaller(state.count, MOST_NAMES)
 }
 
 // The sum of the counts of as many runs as the input says.
 fn run_times(input: &[u8]) -> usize {
-    let calls = text::skip(input, 4);
-    let mut left = bodies::pair_at(input, 0) * 65536 + bodies::pair_at(input, 2);
+    let calls = text_parts::skip(input, 4);
+    let mut left = bodies::two_octets_at(input, 0) * 65536 + bodies::two_octets_at(input, 2);
     let mut sum = 0;
     while left > 0 {
         sum = sum + run_message(calls);
@@ -111,6 +111,6 @@ fn run_times(input: &[u8]) -> usize {
 fn main() {
     let mut memory = io::large_buffer();
     let size = io::read_full(STDIN_FILENO, &mut memory);
-    lines::print_number(run_times(text::part(&memory, 0, size)));
+    lines::print_number(run_times(text_parts::part(&memory, 0, size)));
     lines::print(b"\n");
 }

@@ -9,16 +9,16 @@ use txt::Status;
 // A policy text: what it is, and its rua text.
 fn run_policy(body: &[u8]) -> bool {
     lines::print(b"policy ");
-    lines::print_reading(policy::read(body));
+    lines::print_reading(policy_read::read(body));
     lines::print(b" rua=");
-    lines::print_text(policy::rua(body));
+    lines::print_text(policy_read::rua(body));
     true
 }
 
 // Takes an answer, and prints what it says and what lies in the scratch.
 fn take_answer(status: Status, bytes: &[u8], scratch: &mut [u8]) {
     lines::print(b"answer ");
-    lines::print_taken(txt::take_answer(status, bytes, scratch));
+    lines::print_taken(txt_take::take_answer(status, bytes, scratch));
     lines::print(b" scratch=");
     lines::print_octets(scratch);
 }
@@ -26,17 +26,17 @@ fn take_answer(status: Status, bytes: &[u8], scratch: &mut [u8]) {
 // An answer: status, scratch size of 16 bits, bytes.
 fn run_answer(body: &[u8], memory: &mut [u8]) -> bool {
     let status = bodies::octet_at(body, 0);
-    let size = bodies::pair_at(body, 1);
+    let size = bodies::two_octets_at(body, 1);
     if body.len() < 3 {
         return lines::refuse_case();
     }
     if 2 < status {
         return lines::refuse_case();
     }
-    let room = text::smaller(size, memory.len());
+    let room = text_parts::smaller(size, memory.len());
     take_answer(
-        bodies::status_of(status),
-        text::skip(body, 3),
+        records_fields::status(body),
+        text_parts::skip(body, 3),
         &mut memory[0..room],
     );
     true
@@ -47,13 +47,13 @@ fn run_answer(body: &[u8], memory: &mut [u8]) -> bool {
 fn write_name<'a>(receiver: &'a [u8], policy: &'a [u8], rest: &'a [u8], out: &mut [u8]) {
     let id_end = 18 + bodies::octet_at(rest, 17);
     lines::print(b"file ");
-    lines::print_written(reporting::write_file_name(
+    lines::print_written(reporting_name::write_file_name(
         receiver,
         policy,
-        bodies::number_at(rest, 0),
-        bodies::number_at(rest, 8),
+        bodies::eight_octets_at(rest, 0),
+        bodies::eight_octets_at(rest, 8),
         0 < bodies::octet_at(rest, 16),
-        text::part(rest, 18, id_end),
+        text_parts::part(rest, 18, id_end),
         out,
     ));
     lines::print(b" out=");
@@ -68,11 +68,11 @@ fn run_name(body: &[u8], memory: &mut [u8]) -> bool {
     if body.len() != size + 2 {
         return lines::refuse_case();
     }
-    let room = text::smaller(bodies::pair_at(body, size), memory.len());
+    let room = text_parts::smaller(bodies::two_octets_at(body, size), memory.len());
     write_name(
-        text::part(body, 1, policy),
-        text::part(body, policy + 1, times),
-        text::skip(body, times),
+        text_parts::part(body, 1, policy),
+        text_parts::part(body, policy + 1, times),
+        text_parts::skip(body, times),
         &mut memory[0..room],
     );
     true
@@ -89,7 +89,7 @@ fn method_of(flags: &[u8]) -> Method {
 // Writes a field, and prints it.
 fn write_field(dkim: Method, spf: Method, out: &mut [u8]) {
     lines::print(b"field ");
-    lines::print_written(reporting::write_field(dkim, spf, out));
+    lines::print_written(reporting_field::write_field(dkim, spf, out));
     lines::print(b" out=");
     lines::print_octets(out);
 }
@@ -99,8 +99,8 @@ fn run_field(body: &[u8], memory: &mut [u8]) -> bool {
     if body.len() != 5 {
         return lines::refuse_case();
     }
-    let room = text::smaller(bodies::octet_at(body, 4), memory.len());
-    let spf = text::skip(body, 2);
+    let room = text_parts::smaller(bodies::octet_at(body, 4), memory.len());
+    let spf = text_parts::skip(body, 2);
     write_field(method_of(body), method_of(spf), &mut memory[0..room]);
     true
 }
@@ -124,7 +124,7 @@ fn take_turn() -> bool {
         Case::Broken => lines::refuse_case(),
         Case::Whole { kind, size } => {
             let mut lent = input::fresh_memory();
-            run_case(kind, text::part(&memory, 0, size), &mut lent)
+            run_case(kind, text_parts::part(&memory, 0, size), &mut lent)
         }
     }
 }

@@ -1,7 +1,7 @@
 //! The sheets that are compared.
 
-use tools::generate::{filled, ordinary, SheetKind};
-use tools::messages;
+use sheets::generate::{filled, ordinary, SheetKind};
+use sheets::programs::messages;
 
 /// A sheet, and where it comes from.
 pub struct Case {

@@ -1,17 +1,22 @@
-//! Compares the proved evaluator with the reference evaluator, sheet by sheet.
+//! Compares the proved evaluator with the second one, sheet by sheet.
 
+#![deny(unsafe_code)]
+
+mod agreement;
 mod cases;
 mod program;
+#[allow(unsafe_code)]
 mod proved;
 mod time;
 
 use std::process::ExitCode;
 
+use agreement::{same, Checker};
 use cases::Case;
-use tools::agreement::{same, Checker};
-use tools::generate::SheetKind;
-use tools::sheet;
-use tools::tally::Tally;
+use evaluator::sheet;
+use sheets::command;
+use sheets::generate::SheetKind;
+use sheets::tally::Tally;
 
 const USAGE: &str = "usage:
   compare sheets ORDINARY HOSTILE SEED
@@ -19,21 +24,12 @@ const USAGE: &str = "usage:
   compare time COUNT SEED";
 
 fn main() -> ExitCode {
-    let words: Vec<String> = std::env::args().skip(1).collect();
-    let words: Vec<&str> = words.iter().map(String::as_str).collect();
-    let outcome = match words.as_slice() {
-        ["sheets", ordinary, hostile, seed] => sheets([ordinary, hostile, seed]),
-        ["program", path, count, seed] => programs(path, [count, seed]),
-        ["time", count, seed] => times([count, seed]),
+    command::run(|words| match words {
+        ["sheets", ordinary, hostile, seed] => compare_sheets([ordinary, hostile, seed]),
+        ["program", path, count, seed] => compare_program(path, [count, seed]),
+        ["time", count, seed] => print_times([count, seed]),
         _ => Err(USAGE.to_string()),
-    };
-    match outcome {
-        Ok(()) => ExitCode::SUCCESS,
-        Err(reason) => {
-            eprintln!("{reason}");
-            ExitCode::FAILURE
-        }
-    }
+    })
 }
 
 fn numbers<const N: usize>(words: [&str; N]) -> Result<[u64; N], String> {
@@ -72,7 +68,7 @@ fn print_agreement(asked: &Asked, tally: &Tally) {
 }
 
 /// Both evaluators in this process.
-fn sheets(words: [&str; 3]) -> Result<(), String> {
+fn compare_sheets(words: [&str; 3]) -> Result<(), String> {
     let [ordinary, hostile, seed] = numbers(words)?;
     let asked = Asked {
         ordinary,
@@ -89,7 +85,7 @@ fn sheets(words: [&str; 3]) -> Result<(), String> {
 }
 
 /// The proved evaluator as a program.
-fn programs(path: &str, words: [&str; 2]) -> Result<(), String> {
+fn compare_program(path: &str, words: [&str; 2]) -> Result<(), String> {
     let [count, seed] = numbers(words)?;
     let asked = Asked {
         ordinary: count.div_ceil(2),
@@ -108,7 +104,7 @@ fn programs(path: &str, words: [&str; 2]) -> Result<(), String> {
     Ok(())
 }
 
-fn times(words: [&str; 2]) -> Result<(), String> {
+fn print_times(words: [&str; 2]) -> Result<(), String> {
     let [count, seed] = numbers(words)?;
     time::print(count, seed);
     Ok(())

@@ -4,10 +4,10 @@ use std::collections::BTreeMap;
 use std::hint::black_box;
 use std::time::{Duration, Instant};
 
+use crate::agreement::LENT_OCTETS;
 use crate::proved;
-use tools::agreement::LENT_OCTETS;
-use tools::generate::ordinary;
-use tools::sheet;
+use evaluator::sheet;
+use sheets::generate::ordinary;
 
 const ROUNDS: usize = 7;
 /// "its last 7 if x is over 8": a walk skips labels of a domain of more.

@@ -1,0 +1,2 @@
+-- How the cases of the test programs are read.
+pub mod code

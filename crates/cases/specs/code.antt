@@ -1,0 +1,3 @@
+-- How the cases of the test programs are read.
+pub mod Bodies
+pub mod Sums

@@ -1,0 +1,23 @@
+-- What is claimed of the targets of every walk and of the names asked, whatever the number of labels.
+use mathlib.Core.Path.{_≡_}
+use mathlib.Core.List.{[]}
+use mathlib.Core.Bool.{true}
+use Prim.Native.Nat.{ℕ, _-_, _<_, min}
+use lib.ListN.{length, drop, getD}
+use Rattle.domain.specs.Domain.{Domain, is-domain, label-count, begin-of, targets, can-ask, asked-name}
+
+pub record WalkTargets (d : Domain) : Type 0 where
+  -- "looks at the domain"
+  pub starts : getD (targets d) 0 [] ≡ d
+  -- as many as it has labels, at most eight
+  pub number : length (targets d) ≡ min 8 (label-count d)
+  -- "its last x-1 labels, or its last 7 if x is over 8, then one label fewer each time down to one"
+  pub labels-left : (k : ℕ) → 0 < k → k < length (targets d) → label-count (getD (targets d) k []) ≡ length (targets d) - k
+  -- each is an end of the domain, so its place in the domain marks it
+  pub ends : (k : ℕ) → getD (targets d) k [] ≡ drop (begin-of (getD (targets d) k []) d) d
+
+-- "A target over 246 octets is not asked": with `_dmarc.` in front, every name that is asked keeps the domain rule
+unfoldable pub AskedNames : Domain → Type 0
+AskedNames d =
+    is-domain d ≡ true
+    → (k : ℕ) → k < length (targets d) → can-ask (getD (targets d) k []) ≡ true → is-domain (asked-name (getD (targets d) k [])) ≡ true

@@ -1,0 +1,2 @@
+-- How the code answers.
+pub mod Checking

@@ -1,0 +1,70 @@
+// An evaluation that is not started, a refusal, and the names and domains that one holds.
+ghost use mathlib.Core.Path.{_≡_};
+ghost use lib.ListN.{drop};
+ghost use Rattle.octets.specs.Octets.{lower};
+ghost use Rattle.octets.specs.Lent.{Writes};
+ghost use Rattle.octets.specs.Refusing.{refusal};
+ghost use Rattle.alignment_stored.specs.code.Stored.{slot};
+ghost use Rattle.evaluation.specs.code.View.{blank, marked};
+use domain::Octet;
+use evaluation::Acceptance;
+use evaluation::Changed;
+use evaluation::Evaluation;
+use octets::Refusal;
+use octets::Written;
+use verdict::Existence;
+use verdict_apply::Terms;
+
+// An evaluation in which nothing was started and no name is asked.
+pub fn empty() -> Evaluation
+    ensures { λ r. ⌜ r ≡ blank ⌝ }
+{
+    Evaluation {
+        started: false,
+        domains: [0; 4301],
+        numbers: [0; 51],
+        terms: Terms {
+            existence: Existence::Missing,
+            support: false,
+            identifiers: 0,
+        },
+        kept: [0; 408],
+        count: 0,
+        asked: false,
+        walk: 0,
+        place: Octet(0),
+    }
+}
+
+// A refusal, with its number and place.
+pub fn refuse(number: u8, place: usize) -> Refusal
+    ensures { λ r. ⌜ r ≡ refusal number place ⌝ }
+{
+    Refusal { number, place }
+}
+
+// An evaluation that was refused something, as it was.
+pub fn refused(e: Evaluation, number: u8, place: usize) -> Changed
+    ensures { λ r. ⌜ r ≡ record { evaluation = e; acceptance = Acceptance.Refused (refusal number place) } ⌝ }
+{
+    Changed {
+        evaluation: e,
+        acceptance: Acceptance::Refused(Refusal { number, place }),
+    }
+}
+
+// The name that a walk and a place mark, into the front of lent memory.
+pub fn write_name(e: Evaluation, walk: usize, place: Octet, out: &mut [u8]) -> Written
+    ensures { λ r. ⌜ Writes (marked e walk place) (now (out .entry)) r (now (out .exit)) ⌝ }
+{
+    let d = alignment_stored::slot(&e.domains, &e.numbers, walk);
+    domain_names::write_name(d, place, out)
+}
+
+// The domain that a walk and a place mark, into the front of lent memory.
+pub fn write_domain(e: Evaluation, walk: usize, place: Octet, out: &mut [u8]) -> Written
+    ensures { λ r. ⌜ Writes (lower (drop (place .0) (slot (e .domains) (e .numbers) walk))) (now (out .entry)) r (now (out .exit)) ⌝ }
+{
+    let whole = alignment_stored::slot(&e.domains, &e.numbers, walk);
+    octets_write::write_lower(text_parts::part(whole, place.0, whole.len()), out)
+}

@@ -1,0 +1,2 @@
+-- What the code promises.
+pub mod Appending

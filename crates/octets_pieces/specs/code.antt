@@ -1,0 +1,3 @@
+-- Texts put together from pieces.
+pub mod Pieces
+pub mod Putting

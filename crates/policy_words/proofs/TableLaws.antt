@@ -1,0 +1,148 @@
+-- The rules of the small tables, each a test that is computed at every row.
+use mathlib.Core.Bool.{Bool, true, false, _&&_}
+use mathlib.Core.List.{List, [], _∷_, _++_, map}
+use mathlib.Core.Path.{_≡_, refl, ap, sym, _∙_, subst}
+use Prim.Native.Nat.{ℕ, zero, suc, _+_, _≤_, _<_}
+use Prim.Native.String.{String}
+use native.Mathlib.Nat.{add-zero, zero-add, add-suc, suc-add, le-of-suc-le-suc, not-suc-le-zero}
+use native.Mathlib.Numerals.{add-one}
+use native.Mathlib.Omega.{arith}
+use lib.Dec.{T, eqb, eqb→eq}
+use lib.ListN.{length, drop, getD, length-map}
+use lib.Seq.{drop-cons, drop-length}
+use Rattle.octets.specs.Octets.{Octets, octets, same, lower, same-text}
+use Rattle.octets.proofs.TextLaws.{and-left, and-right, same→eq}
+use Rattle.policy.specs.declared.Policy.{Policy}
+use Rattle.policy.specs.Records.{word}
+use Rattle.force.specs.InForce.{step-down}
+use Rattle.policy_words.specs.declared.TagName.{TagName}
+use Rattle.policy_words.specs.code.Rows.{tag-names, policy-number, policy-at, tag-number, tag-word, row-word, position, row-of}
+
+-- ------------------------------------------------------------------ any table
+
+-- a test passes at each entry and its row, counted from i
+abbrev pub every : {A : Type 0} → (ℕ → A → Bool) → ℕ → List A → Bool
+every f i [] = true
+every f i (x ∷ xs) = f i x && every f (suc i) xs
+
+from : {A : Type 0} (f : ℕ → A → Bool) (d : A) (xs : List A) (i : ℕ) → T (every f i xs) → (k : ℕ) → k < length xs → T (f (i + k) (getD xs k d))
+from f d [] i t k h = absurd (not-suc-le-zero h)
+from f d (x ∷ xs) i t zero h = subst (λ (m : ℕ). T (f m x)) (sym (add-zero i)) (and-left (f i x) (every f (suc i) xs) t)
+from f d (x ∷ xs) i t (suc k) h =
+    subst (λ (m : ℕ). T (f m (getD xs k d))) (suc-add i k ∙ sym (add-suc i k))
+    (from f d xs (suc i) (and-right (f i x) (every f (suc i) xs) t) k (le-of-suc-le-suc h))
+
+at : {A : Type 0} (f : ℕ → A → Bool) (d : A) (xs : List A) → T (every f 0 xs) → (k : ℕ) → k < length xs → T (f k (getD xs k d))
+at f d xs t k h = subst (λ (m : ℕ). T (f m (getD xs k d))) (zero-add k) (from f d xs 0 t k h)
+
+-- ------------------------------------------------------------------ policies by their number
+
+pub policy-fits : (p : Policy) → policy-number p < 3
+unfolding policy-number
+policy-fits Policy.None = omega arith
+policy-fits Policy.Quarantine = omega arith
+policy-fits Policy.Reject = omega arith
+
+back : (p : Policy) → policy-at (policy-number p) ≡ p
+unfolding policy-at policy-number
+back Policy.None = refl
+back Policy.Quarantine = refl
+back Policy.Reject = refl
+
+-- an entry is the step down from the policy of its row
+abbrev pub is-step : ℕ → Policy → Bool
+is-step k p = eqb (policy-number p) (policy-number (step-down (policy-at k)))
+
+pub steps : (table : List Policy) → T (every is-step 0 table) → (d p : Policy) → policy-number p < length table → getD table (policy-number p) d ≡ step-down p
+steps table t d p h =
+    sym (back (getD table (policy-number p) d))
+    ∙ ap policy-at (eqb→eq _ _ (at is-step d table t (policy-number p) h))
+    ∙ back (step-down (policy-at (policy-number p)))
+    ∙ ap step-down (back p)
+
+-- ------------------------------------------------------------------ tag names by their number
+
+pub tag-fits : (t : TagName) → tag-number t < 8
+unfolding tag-number
+tag-fits TagName.P = omega arith
+tag-fits TagName.Sp = omega arith
+tag-fits TagName.Np = omega arith
+tag-fits TagName.Adkim = omega arith
+tag-fits TagName.Aspf = omega arith
+tag-fits TagName.Psd = omega arith
+tag-fits TagName.T = omega arith
+tag-fits TagName.Rua = omega arith
+
+-- a row's word is the tag name of its number
+abbrev pub is-name : ℕ → Octets → Bool
+is-name k row = same (lower (row-word row)) (octets (getD tag-names k ""))
+
+pub names : (table : List Octets) → T (every is-name 0 table) → (t : TagName) → tag-number t < length table → (d s : Octets) → same-text s (row-word (getD table (tag-number t) d)) ≡ same (lower s) (tag-word t)
+unfolding same-text tag-word
+names table e t h d s = ap (same (lower s)) (same→eq _ _ (at is-name d table e (tag-number t) h))
+
+-- ------------------------------------------------------------------ the place of a text in a list
+
+module _ (s w : Octets) (ws : List Octets) where
+  position-here : same s w ≡ true → position s (w ∷ ws) ≡ 0
+  unfolding position
+  position-here e = rw (e, position)
+
+  position-next : same s w ≡ false → position s (w ∷ ws) ≡ suc (position s ws)
+  unfolding position
+  position-next e = rw (e, position)
+
+position-fits : (s : Octets) (ws : List Octets) → position s ws ≤ length ws
+unfolding position
+position-fits s [] = omega arith
+position-fits s (w ∷ ws) = go (position-fits s ws) (same s w) refl
+  where
+    go : position s ws ≤ length ws → (b : Bool) → same s w ≡ b → position s (w ∷ ws) ≤ suc (length ws)
+    go ih true e = rw (position-here s w ws e) (omega arith)
+    go ih false e = rw (position-next s w ws e) (omega arith)
+
+-- ------------------------------------------------------------------ tables of words
+
+module _ (s : Octets) (rows : List Octets) (i : ℕ) (h : i < length rows) where
+  pub rows-here : same-text s (row-word (getD rows i [])) ≡ true → i + row-of s (drop i rows) ≡ i
+  unfolding row-of same-text
+  rows-here e = rw (drop-cons rows i [] h, position-here (lower s) (lower (row-word (getD rows i []))) (map (λ row. lower (row-word row)) (drop (suc i) rows)) e) (omega arith)
+
+  pub rows-next : same-text s (row-word (getD rows i [])) ≡ false → i + row-of s (drop i rows) ≡ i + 1 + row-of s (drop (i + 1) rows)
+  unfolding row-of same-text
+  rows-next e = rw (drop-cons rows i [] h, position-next (lower s) (lower (row-word (getD rows i []))) (map (λ row. lower (row-word row)) (drop (suc i) rows)) e, add-one i) (omega arith)
+
+pub rows-past : (s : Octets) (rows : List Octets) (i : ℕ) → i ≡ length rows → i + row-of s (drop i rows) ≡ i
+unfolding row-of position
+rows-past s rows i e = rw (e, drop-length rows) (omega arith)
+
+-- what a table of words gives: the entry of the word's place
+word-at : {A : Type 0} (rows : List (String × A)) (other : A) (v : Octets) → word rows other v ≡ getD (map (λ r. r .1) rows) (position (lower v) (map (λ r. octets (r .0)) rows)) other
+unfolding word
+word-at [] other v = refl
+word-at (row ∷ rows) other v = go (word-at rows other v) (same (lower v) (octets (row .0))) refl
+  where
+    go : word rows other v ≡ getD (map (λ r. r .1) rows) (position (lower v) (map (λ r. octets (r .0)) rows)) other → (b : Bool) → same (lower v) (octets (row .0)) ≡ b
+        → word (row ∷ rows) other v ≡ getD (map (λ r. r .1) (row ∷ rows)) (position (lower v) (octets (row .0) ∷ map (λ r. octets (r .0)) rows)) other
+    go ih true e = rw (position-here (lower v) (octets (row .0)) (map (λ r. octets (r .0)) rows) e, e)
+    go ih false e = rw (position-next (lower v) (octets (row .0)) (map (λ r. octets (r .0)) rows) e, e) ih
+
+last-entry : {A : Type 0} (xs : List A) (a d : A) (n : ℕ) → n ≤ length xs → getD (xs ++ (a ∷ [])) n d ≡ getD xs n a
+last-entry [] a d zero h = refl
+last-entry [] a d (suc n) h = absurd (omega arith)
+last-entry (x ∷ xs) a d zero h = refl
+last-entry (x ∷ xs) a d (suc n) h = last-entry xs a d n (omega arith)
+
+-- a table of entries beside a table of rows: the entry of a row, and last what holds of any other value
+module _ (v : Octets) (table : List Octets) (n : ℕ) (h : n ≡ row-of v table) where
+  pub entry-fits : n ≤ length table
+  unfolding row-of
+  entry-fits = omega (arith, position-fits (lower v) (map (λ row. lower (row-word row)) table), length-map table (λ row. lower (row-word row)))
+
+  -- if the rows are the words
+  pub entry-word : {A : Type 0} (rows : List (String × A)) (other : A) → map (λ row. lower (row-word row)) table ≡ map (λ r. octets (r .0)) rows → (d : A) → getD (map (λ r. r .1) rows ++ (other ∷ [])) n d ≡ word rows other v
+  unfolding row-of
+  entry-word rows other e d =
+      last-entry (map (λ r. r .1) rows) other d n (omega (arith, entry-fits, length-map table (λ row. lower (row-word row)), ap length e, length-map rows (λ r. octets (r .0)), length-map rows (λ r. r .1)))
+      ∙ ap (λ (i : ℕ). getD (map (λ r. r .1) rows) i other) (h ∙ ap (position (lower v)) e)
+      ∙ sym (word-at rows other v)

@@ -1,0 +1,2 @@
+-- A sheet's records where they lie.
+pub mod Layout

@@ -1,0 +1,2 @@
+-- What a record is.
+pub mod Kinds

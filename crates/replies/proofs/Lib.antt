@@ -1,2 +1,0 @@
--- Laws of kept replies.
-pub mod CodeLaws

@@ -1,2 +1,0 @@
--- What a reader must believe of kept replies.
-pub mod Codes

@@ -1,0 +1,70 @@
+-- Laws of a whole sheet: from its records to its start, and what is printed.
+use mathlib.Core.Path.{_≡_, refl, ap, sym, _∙_}
+use mathlib.Core.Bool.{false}
+use Prim.Native.Nat.{ℕ, _≤_}
+use lib.ListN.{length, drop, getD}
+use Rattle.octets.specs.Octets.{Octets}
+use Rattle.octets.specs.Framing.{body-of}
+use Rattle.octets.specs.Refusing.{OrRefused, ok, not-ok, _>>=_, refusal}
+use Rattle.octets.specs.declared.Refusal.{Refusal}
+use Rattle.octets.proofs.TextLaws.{true→T}
+use Rattle.verdict.specs.Message.{Message}
+use Rattle.book.specs.Start.{GivenMessage, started, unpacked}
+use Rattle.evaluation.specs.declared.Evaluation.{Evaluation}
+use Rattle.evaluation.specs.declared.Acceptance.{Acceptance}
+use Rattle.evaluation.specs.declared.Changed.{Changed}
+use Rattle.evaluation.specs.code.View.{view, opened-view, Changes, started-view, given-message}
+use Rattle.evaluation.proofs.ViewLaws.{accepted-few}
+use Rattle.records.specs.Sheet.{entries, message-in, answer-at}
+use Rattle.records_fields.specs.code.Layout.{listed, identifiers-part, Whole}
+use Rattle.records_find.proofs.SheetLaws.{message-law}
+use Rattle.sheet.specs.Printed.{evaluated-over, evaluated, text-of, printed}
+use Rattle.sheet_turn.specs.code.Conversing.{answers-on}
+use Rattle.sheet_run.specs.code.Beginning.{Begins}
+use Rattle.sheet_turn.proofs.ConversingLaws.{begins}
+
+-- a broken sheet
+pub broken : (sheet : Octets) (k : ℕ) (e : Evaluation) (f : Refusal) → entries sheet ≡ not-ok f → Begins sheet (record { records = k; evaluation = e; acceptance = Acceptance.Refused f })
+unfolding printed evaluated _>>=_
+broken sheet k e f r = record {
+  refused = λ g q. rw r (ap (λ x. text-of (not-ok x)) (cc q));
+  accepted = λ q. absurd (true→T {b = false} (cc q));
+}
+
+module _ (k : ℕ) (sheet : Octets) (ω : Whole k sheet) where
+  -- by what its start gives
+  started-then : OrRefused Message → OrRefused Octets
+  started-then x = x >>= λ m. evaluated-over m (answers-on k sheet)
+
+  printed-whole : printed sheet ≡ text-of (started-then (started (message-in (listed k sheet))))
+  unfolding printed evaluated _>>=_ started-then answers-on
+  printed-whole = rw (ω .reads)
+
+  -- the start that the code makes
+  module _ {author : Octets} {existence support : ℕ} {packed : Octets} (e : author ≡ drop 2 (body-of sheet)) (f : existence ≡ getD sheet 4 0) (h : support ≡ getD sheet 5 0) (i : packed ≡ identifiers-part k sheet)
+      (before : Evaluation) (r : Changed) (c : Changes before (started-view (started (given-message author existence support packed))) r) where
+    is-message : given-message author existence support packed ≡ message-in (listed k sheet)
+    unfolding given-message
+    is-message = rw (e, f, h, i) (sym (message-law k sheet ω))
+
+    pub whole : Begins sheet (record { records = k; evaluation = r .evaluation; acceptance = r .acceptance })
+    unfolding Changes started-view started-then _>>=_
+    whole = go (started (message-in (listed k sheet))) refl (rw is-message at c)
+      where
+        go : (o : OrRefused Message) → started (message-in (listed k sheet)) ≡ o → Changes before (started-view o) r → Begins sheet (record { records = k; evaluation = r .evaluation; acceptance = r .acceptance })
+        go (ok m) s (a, v) = record {
+          refused = λ g q. let z : Acceptance.Refused g ≡ Acceptance.Accepted = sym q ∙ a in absurd (true→T {b = false} (cc z));
+          accepted = λ q. record {
+            message = m;
+            all-listed = ω .all-listed;
+            conversing = λ lines size. begins m (answers-on k sheet) (r .evaluation) lines (accepted-few (message-in (listed k sheet)) m s) v size;
+            prints = printed-whole ∙ rw s;
+          };
+        }
+        go (not-ok x) s a = record {
+          refused = λ g q.
+              let z : Acceptance.Refused g ≡ Acceptance.Refused x = sym q ∙ ap (λ y. y .acceptance) a in
+              let w : g ≡ x = cc z in
+              printed-whole ∙ rw (s, w);
+          accepted = λ q. let z : Acceptance.Accepted ≡ Acceptance.Refused x = sym q ∙ ap (λ y. y .acceptance) a in absurd (true→T {b = false} (cc z));
+        }

@@ -1,0 +1,2 @@
+-- A sheet's start.
+pub mod Beginning

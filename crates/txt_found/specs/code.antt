@@ -1,0 +1,2 @@
+-- The policy records among texts.
+pub mod Finding

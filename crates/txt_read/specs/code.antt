@@ -1,0 +1,2 @@
+-- The steps of taking an answer.
+pub mod Steps

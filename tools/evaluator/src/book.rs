@@ -1,0 +1,141 @@
+//! Demand 3's book: what a list of calls gives back and leaves in lent memory.
+
+use crate::evaluate::{evaluate, Evaluation, Progress};
+use crate::refusal::Refusal;
+use crate::report;
+use crate::start::{self, GivenMessage, Message};
+use crate::txt::{self, Answer, Status};
+use crate::verdict::Verdict;
+use crate::walk::AskedName;
+
+/// Refusal 10: "scratch under 4,096 octets"
+pub const SCRATCH_OCTETS: usize = 4096;
+
+/// An accepted answer as it was handed in.
+#[derive(Clone, Debug, PartialEq, Eq)]
+struct Accepted {
+    name: Vec<u8>,
+    status: Status,
+    bytes: Vec<u8>,
+}
+
+/// "It holds message, accepted answers and the name now asked; the last two
+/// start empty." Without a message nothing was started.
+#[derive(Clone, Debug, Default, PartialEq, Eq)]
+pub struct Book {
+    message: Option<Message>,
+    accepted: Vec<Accepted>,
+    asked: Option<Vec<u8>>,
+}
+
+/// "The next step is one of three": the third is a refusal.
+#[derive(Clone, Debug, PartialEq, Eq)]
+pub enum Step {
+    Ask(AskedName),
+    Verdict(Verdict),
+}
+
+impl Book {
+    /// Starts a message over; a refused start leaves the book as it stood.
+    pub fn start(&mut self, given: &GivenMessage) -> Result<(), Refusal> {
+        *self = Book {
+            message: Some(start::start(given)?),
+            ..Book::default()
+        };
+        Ok(())
+    }
+
+    /// "separate walks run over its answers to the first name without one, which
+    /// is given and now asked; ... if none lacks one, the verdict"
+    pub fn next_step(&mut self) -> Result<Step, Refusal> {
+        let evaluation = self.evaluation().ok_or(Refusal::new(7, 0))?;
+        Ok(match evaluation.progress {
+            Progress::Ask(asked) => {
+                self.asked = Some(asked.name.clone());
+                Step::Ask(asked)
+            }
+            Progress::Verdict(verdict) => Step::Verdict(verdict),
+        })
+    }
+
+    /// "Answer: 5, 6, 10; else kept, scratch as above, no name asked."
+    pub fn answer(
+        &mut self,
+        name: &[u8],
+        answer: Answer,
+        scratch: &mut [u8],
+    ) -> Result<(), Refusal> {
+        let now_asked = |asked: &Vec<u8>| asked.eq_ignore_ascii_case(name);
+        if !self.asked.as_ref().is_some_and(now_asked) {
+            return Err(Refusal::new(5, 0));
+        }
+        if !txt::acceptable(answer) {
+            return Err(Refusal::new(6, 0));
+        }
+        if scratch.len() < SCRATCH_OCTETS {
+            return Err(Refusal::new(10, SCRATCH_OCTETS));
+        }
+        if answer.status == Status::Records {
+            // "all its texts in record order from octet 0, the rest unchanged"
+            let texts = txt::texts(answer.bytes).unwrap_or_default();
+            report::lend(&texts.concat(), scratch)?;
+        }
+        self.keep(answer);
+        Ok(())
+    }
+
+    /// Keeps an answer for the name now asked, and then no name is asked.
+    fn keep(&mut self, answer: Answer) {
+        let bytes = match answer.status {
+            Status::Records => answer.bytes.to_vec(),
+            // "bytes that come with none or error are not read"
+            Status::None | Status::Error => Vec::new(),
+        };
+        if let Some(name) = self.asked.take() {
+            self.accepted.push(Accepted {
+                name,
+                status: answer.status,
+                bytes,
+            });
+        }
+    }
+
+    /// "Result: 7 while a name lacks an answer, else the verdict."
+    pub fn result(&self) -> Result<Verdict, Refusal> {
+        match self.evaluation().map(|evaluation| evaluation.progress) {
+            Some(Progress::Verdict(verdict)) => Ok(verdict),
+            _ => Err(Refusal::new(7, 0)),
+        }
+    }
+
+    /// "Field: 7, 9, 10, else its octets." Gives the number of octets written.
+    pub fn field(&self, out: &mut [u8]) -> Result<usize, Refusal> {
+        let verdict = self.result()?;
+        let message = self.message.as_ref().ok_or(Refusal::new(7, 0))?;
+        report::lend(&report::field_text(message, &verdict)?, out)
+    }
+
+    /// The names asked so far, in order, the one now lacking an answer included.
+    pub fn names(&self) -> Vec<AskedName> {
+        self.evaluation()
+            .map_or(Vec::new(), |evaluation| evaluation.names)
+    }
+
+    /// The name now asked.
+    pub fn now_asked(&self) -> Option<&[u8]> {
+        self.asked.as_deref()
+    }
+
+    fn evaluation(&self) -> Option<Evaluation> {
+        let message = self.message.as_ref()?;
+        Some(evaluate(message, |name| self.accepted_answer(name)))
+    }
+
+    fn accepted_answer(&self, name: &[u8]) -> Option<Answer<'_>> {
+        let accepted = self.accepted.iter().find(|known| known.name == name)?;
+        Some(Answer {
+            status: accepted.status,
+            bytes: &accepted.bytes,
+        })
+    }
+}

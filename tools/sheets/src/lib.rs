@@ -1,0 +1,15 @@
+//! Sheets in every other form than their octets: described, explained, worked
+//! through by hand, generated from a seed; and the cases that the programs of
+//! the proved crates run.
+
+#![forbid(unsafe_code)]
+
+pub mod command;
+pub mod description;
+pub mod examples;
+pub mod explain;
+pub mod generate;
+pub mod programs;
+pub mod random;
+pub mod tally;
+pub mod written;

@@ -1,0 +1,43 @@
+//! Scrambled lists of calls on one evaluation, and the lines they give.
+//!
+//! A case is a call: one octet kind, a 16-bit length (high octet first) and a
+//! body of that length. Each call has one line; the reference's book gives it.
+//! Lent memory comes filled with octet 255.
+//!
+//! - `S`, a start: existence, support, author after a length octet, then the
+//!   identifiers as records of a sheet, packed as `packing::unpacked` takes them.
+//! - `N`, the next step, and `R`, the result: no body.
+//! - `A`, an answer: status (0 records, 1 none, 2 error), 16-bit scratch size,
+//!   name after a length octet, the answer's bytes.
+//! - `F`, the field: 16-bit output size.
+
+mod accepted;
+mod call;
+mod long;
+mod packing;
+mod refused;
+mod scramble;
+
+pub use call::{AnswerCall, Call, StartCall};
+pub use packing::packed;
+
+use super::cases::Files;
+use evaluator::book::Book;
+
+/// All calls, in their order, or nothing if a message cannot be written.
+fn calls() -> Option<Vec<Call>> {
+    let plans = accepted::messages()?;
+    Some(scramble::scrambled(&plans, refused::messages()))
+}
+
+/// The error is of a call some part of which is too long for its length.
+pub fn files() -> Result<Files, String> {
+    let too_long = "a call is too long for its length";
+    let mut book = Book::default();
+    let mut files = Files::default();
+    for call in calls().ok_or(too_long)? {
+        let octets = call.octets().ok_or(too_long)?;
+        files.push(&octets, format!("{}\n", call.line(&mut book)).as_bytes());
+    }
+    Ok(files)
+}

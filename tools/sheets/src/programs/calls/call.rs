@@ -1,0 +1,157 @@
+//! One call: its octets in CASES, and the line it gives.
+
+use super::packing::unpacked;
+use crate::programs::cases::{self, push_counted, sums, used, written_words, FILL};
+use crate::written::hex;
+use evaluator::book::{Book, Step};
+use evaluator::refusal::Refusal;
+use evaluator::start::GivenMessage;
+use evaluator::txt::{Answer, Status};
+use evaluator::verdict::{Alignment, Verdict};
+
+/// One call.
+#[derive(Clone, Debug, PartialEq, Eq)]
+pub enum Call {
+    Start(StartCall),
+    Next,
+    Answer(AnswerCall),
+    Result,
+    Field { size: u16 },
+}
+
+/// A message as it is handed over.
+#[derive(Clone, Debug, Default, PartialEq, Eq)]
+pub struct StartCall {
+    pub existence: u8,
+    pub support: u8,
+    pub author: Vec<u8>,
+    pub packed: Vec<u8>,
+}
+
+/// An answer for a name, and the size of the lent scratch.
+#[derive(Clone, Debug, PartialEq, Eq)]
+pub struct AnswerCall {
+    pub status: Status,
+    pub scratch: u16,
+    pub name: Vec<u8>,
+    pub bytes: Vec<u8>,
+}
+
+impl Call {
+    pub fn kind(&self) -> u8 {
+        match self {
+            Call::Start(_) => b'S',
+            Call::Next => b'N',
+            Call::Answer(_) => b'A',
+            Call::Result => b'R',
+            Call::Field { .. } => b'F',
+        }
+    }
+
+    /// The call as it stands in CASES.
+    pub fn octets(&self) -> Option<Vec<u8>> {
+        let body = match self {
+            Call::Start(given) => start_body(given)?,
+            Call::Answer(given) => answer_body(given)?,
+            Call::Field { size } => size.to_be_bytes().to_vec(),
+            Call::Next | Call::Result => Vec::new(),
+        };
+        cases::octets(self.kind(), &body)
+    }
+
+    /// Makes the call, and gives the line that must be printed, without its end.
+    pub fn line(&self, book: &mut Book) -> String {
+        match self {
+            Call::Start(given) => format!("start {}", accepted_words(given.make(book))),
+            Call::Next => format!("next {}", step_words(book.next_step())),
+            Call::Answer(given) => {
+                let mut scratch = vec![FILL; usize::from(given.scratch)];
+                let words = accepted_words(given.make(book, &mut scratch));
+                format!("answer {words} scratch={}", sums(&scratch))
+            }
+            Call::Result => format!("result {}", result_words(book.result())),
+            Call::Field { size } => {
+                let mut out = vec![FILL; usize::from(*size)];
+                let words = written_words(book.field(&mut out));
+                format!("field {words} out={}:{}", sums(&out), hex(used(&out)))
+            }
+        }
+    }
+}
+
+impl StartCall {
+    fn make(&self, book: &mut Book) -> Result<(), Refusal> {
+        book.start(&GivenMessage {
+            author: &self.author,
+            existence: self.existence,
+            support: self.support,
+            identifiers: unpacked(&self.packed),
+        })
+    }
+}
+
+impl AnswerCall {
+    fn make(&self, book: &mut Book, scratch: &mut [u8]) -> Result<(), Refusal> {
+        let (status, bytes) = (self.status, self.bytes.as_slice());
+        book.answer(&self.name, Answer { status, bytes }, scratch)
+    }
+}
+
+fn start_body(given: &StartCall) -> Option<Vec<u8>> {
+    let mut body = vec![given.existence, given.support];
+    push_counted(&mut body, &given.author)?;
+    body.extend(&given.packed);
+    Some(body)
+}
+
+fn answer_body(given: &AnswerCall) -> Option<Vec<u8>> {
+    let mut body = vec![cases::status_number(given.status)];
+    body.extend(given.scratch.to_be_bytes());
+    push_counted(&mut body, &given.name)?;
+    body.extend(&given.bytes);
+    Some(body)
+}
+
+fn accepted_words(accepted: Result<(), Refusal>) -> String {
+    match accepted {
+        Ok(()) => "accepted".to_string(),
+        Err(refusal) => refusal.to_string(),
+    }
+}
+
+fn step_words(step: Result<Step, Refusal>) -> String {
+    match step {
+        Ok(Step::Ask(asked)) => format!("ask {}", String::from_utf8_lossy(&asked.name)),
+        Ok(Step::Verdict(verdict)) => verdict_words(&verdict),
+        Err(refusal) => refusal.to_string(),
+    }
+}
+
+fn result_words(result: Result<Verdict, Refusal>) -> String {
+    match result {
+        Ok(verdict) => verdict_words(&verdict),
+        Err(refusal) => refusal.to_string(),
+    }
+}
+
+/// A verdict; of each alignment a letter.
+fn verdict_words(verdict: &Verdict) -> String {
+    let letters: String = verdict.alignments.iter().map(alignment_letter).collect();
+    format!(
+        "verdict {} policy={} disposition={} domain={} alignments={letters} count={}",
+        verdict.result.word(),
+        verdict.policy.word(),
+        verdict.disposition.word(),
+        String::from_utf8_lossy(&verdict.domain),
+        verdict.asked,
+    )
+}
+
+fn alignment_letter(alignment: &Alignment) -> char {
+    match alignment {
+        Alignment::NotJudged => 'j',
+        Alignment::Aligned => 'a',
+        Alignment::NotAligned => 'n',
+        Alignment::Unknown => 'u',
+    }
+}

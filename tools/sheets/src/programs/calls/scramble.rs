@@ -1,0 +1,300 @@
+//! The order of the calls: each message is run to its verdict, with calls in
+//! between that are refused, come too early or come again.
+
+use super::accepted::Plan;
+use super::call::{AnswerCall, Call, StartCall};
+use crate::random::Random;
+use evaluator::book::Book;
+use evaluator::txt::{self, Status};
+
+const SEED: u64 = 7489;
+/// A message of more names than this has fewer calls in between.
+const MANY_NAMES: usize = 30;
+/// Sizes of a lent output: none, one octet, around the lengths of the four
+/// fields (25, 26 and 31), and more.
+const FIELD_SIZES: [u16; 10] = [0, 1, 24, 25, 26, 27, 30, 31, 40, 300];
+/// Sizes of a scratch that is long enough, and of one that is not.
+const LONG: [u16; 6] = [4096, 4096, 4096, 4096, 4097, 65_535];
+const SHORT: [u16; 4] = [4095, 4095, 1, 0];
+/// Bytes that are no answer's, or one over a limit.
+const UNREADABLE: [&[u8]; 10] = [
+    b"T",
+    b"TX",
+    b"TX\0",
+    b"TX\0\0",
+    b"TX\0\x01",
+    b"XT\0\x01\0",
+    b"TX\0\x03\x01a",
+    b"TX\0\x02\x02a",
+    b"TX\0\x03\x01ab",
+    b"TX\0\x13\x12v=DMARC1; p=rejectTX\0\0",
+];
+/// A readable answer.
+const RECORD: &[u8] = b"TX\0\x13\x12v=DMARC1; p=reject";
+
+/// The calls of these messages, one message after the other, with refused
+/// starts in between.
+pub fn scrambled(plans: &[Plan], refused: Vec<StartCall>) -> Vec<Call> {
+    let mut scrambler = Scrambler {
+        random: Random::of(SEED, 0),
+        book: Book::default(),
+        calls: Vec::new(),
+        refused,
+        last: b"_dmarc.example.com".to_vec(),
+    };
+    scrambler.before_a_start();
+    scrambler.at_the_limits();
+    for plan in plans {
+        scrambler.run(plan);
+    }
+    while scrambler.refuse_start() {
+        scrambler.push(Call::Next);
+    }
+    scrambler.calls
+}
+
+/// A readable answer of so many octets and as many records as one may have: one
+/// policy record, then other texts.
+fn full_answer(octets: usize) -> Vec<u8> {
+    let others = txt::MOST_RECORDS - 1;
+    let size = octets / txt::MOST_RECORDS;
+    let first = full_record(b"v=DMARC1; p=quarantine; x=", octets - others * size);
+    let other = full_record(b"", size);
+    [first, other.repeat(others)].concat()
+}
+
+/// A record of so many octets with a text of one string.
+fn full_record(text: &[u8], octets: usize) -> Vec<u8> {
+    let string = octets - 5;
+    let mut record = b"TX\0".to_vec();
+    record.extend([string as u8 + 1, string as u8]);
+    record.extend(text);
+    record.resize(octets, b'z');
+    record
+}
+
+struct Scrambler {
+    random: Random,
+    book: Book,
+    calls: Vec<Call>,
+    /// The refused starts that were not made yet.
+    refused: Vec<StartCall>,
+    /// The name that was answered last.
+    last: Vec<u8>,
+}
+
+impl Scrambler {
+    /// Makes a call.
+    fn push(&mut self, call: Call) {
+        call.line(&mut self.book);
+        self.calls.push(call);
+    }
+
+    fn push_answer(&mut self, name: &[u8], status: Status, bytes: &[u8], scratch: u16) {
+        self.push(Call::Answer(AnswerCall {
+            status,
+            scratch,
+            name: name.to_vec(),
+            bytes: bytes.to_vec(),
+        }));
+    }
+
+    /// Makes a refused start, if there is one left.
+    fn refuse_start(&mut self) -> bool {
+        let at = self.random.below(self.refused.len());
+        if at >= self.refused.len() {
+            return false;
+        }
+        let call = self.refused.swap_remove(at);
+        self.push(Call::Start(call));
+        true
+    }
+
+    /// Calls where nothing was started, and where a start was refused.
+    fn before_a_start(&mut self) {
+        for _ in 0..2 {
+            self.push(Call::Next);
+            self.push(Call::Result);
+            self.push(Call::Field { size: 0 });
+            self.push(Call::Field { size: 64 });
+            self.push_answer(b"_dmarc.example.com", Status::Records, RECORD, 4096);
+            self.push_answer(b"", Status::Error, b"", 0);
+            self.refuse_start();
+        }
+        self.push(Call::Next);
+    }
+
+    /// Answers at the limits of one answer, and just over them.
+    fn at_the_limits(&mut self) {
+        let name = b"_dmarc.example.com";
+        self.push(Call::Start(StartCall {
+            existence: 1,
+            support: 1,
+            author: b"example.com".to_vec(),
+            packed: Vec::new(),
+        }));
+        self.push(Call::Next);
+        let most = txt::MOST_ANSWER_OCTETS;
+        self.push_answer(name, Status::Records, &full_answer(most + 1), 65_535);
+        self.push_answer(name, Status::Records, &full_answer(most), 4095);
+        self.push_answer(name, Status::Records, &full_answer(most), 4096);
+        self.push(Call::Next);
+        self.push(Call::Field { size: 0 });
+    }
+
+    /// One message from its start to after its verdict.
+    fn run(&mut self, plan: &Plan) {
+        self.push(Call::Start(plan.start.clone()));
+        let restart_at = self.random.percent(12).then(|| self.random.between(1, 4));
+        let mut answered = 0;
+        while self.book.result().is_err() {
+            self.disturb();
+            if Some(answered) == restart_at {
+                answered += 1;
+                self.push(Call::Start(plan.start.clone()));
+            }
+            match self.book.now_asked().map(<[u8]>::to_vec) {
+                None => self.push(Call::Next),
+                Some(name) => {
+                    self.refuse_answers(&name);
+                    self.answer(plan, &name);
+                    answered += 1;
+                }
+            }
+        }
+        self.after_the_verdict();
+    }
+
+    /// How often something comes in between, in percent.
+    fn rate(&self) -> usize {
+        match self.book.names().len() > MANY_NAMES {
+            true => 5,
+            false => 45,
+        }
+    }
+
+    /// Calls that change nothing, or ask the next name.
+    fn disturb(&mut self) {
+        let rate = self.rate();
+        while self.random.percent(rate) {
+            match self.random.below(8) {
+                0 => self.push(Call::Result),
+                1 | 2 => {
+                    let size = self.random.pick(&FIELD_SIZES);
+                    self.push(Call::Field { size });
+                }
+                3 | 4 => self.push(Call::Next),
+                5 => {
+                    self.refuse_start();
+                }
+                _ => self.answer_wrongly(),
+            }
+        }
+    }
+
+    /// An answer for a name that is not asked now: whatever else is wrong, 5.
+    fn answer_wrongly(&mut self) {
+        let name = self.wrong_name();
+        let status = [Status::Records, Status::None, Status::Error][self.random.below(3)];
+        let bytes = match self.random.below(3) {
+            0 => RECORD,
+            1 => self.random.pick(&UNREADABLE),
+            _ => b"",
+        };
+        let scratch = self.random.pick(&[4096, 4095, 0]);
+        self.push_answer(&name, status, bytes, scratch);
+    }
+
+    /// A name that is near the one now asked, or near the next one if none is.
+    fn wrong_name(&mut self) -> Vec<u8> {
+        let Some(asked) = self.book.now_asked() else {
+            let next = self.book.names().pop();
+            return next.map_or(self.last.clone(), |next| next.name);
+        };
+        let mut name = asked.to_vec();
+        match self.random.below(7) {
+            0 => name.push(b'.'),
+            1 => name = name.split_off(7),
+            2 => name.clear(),
+            3 => {
+                name.pop();
+            }
+            4 => {
+                let at = self.random.below(name.len());
+                // No letter becomes itself in the other case.
+                name[at] ^= 1;
+            }
+            5 => name.insert(0, b'x'),
+            _ if self.last != name => name = self.last.clone(),
+            _ => name.clear(),
+        }
+        // A length octet comes before it.
+        name.truncate(255);
+        name
+    }
+
+    /// Refused answers for the name now asked: 6 before 10.
+    fn refuse_answers(&mut self, name: &[u8]) {
+        let rate = self.rate() / 2;
+        if self.random.percent(rate) {
+            let bytes = self.random.pick(&UNREADABLE);
+            let scratch = self.random.pick(&[4096, 4095, 0]);
+            self.push_answer(name, Status::Records, bytes, scratch);
+        }
+        if self.random.percent(rate) {
+            let scratch = self.random.pick(&SHORT);
+            self.push_answer(name, Status::Records, RECORD, scratch);
+        }
+        if self.random.percent(rate / 3) {
+            let scratch = self.random.pick(&SHORT);
+            let bytes = self.random.pick(&UNREADABLE);
+            self.push_answer(name, Status::None, bytes, scratch);
+        }
+        if self.random.percent(rate / 8) {
+            let records = b"TX\0\x02\x01a".repeat(17);
+            self.push_answer(name, Status::Records, &records, 4096);
+        }
+    }
+
+    /// The answer for the name now asked, in either case. Bytes that come with
+    /// none or error are not read.
+    fn answer(&mut self, plan: &Plan, name: &[u8]) {
+        let (status, mut bytes) = plan.answer(name);
+        if status != Status::Records && self.random.percent(30) {
+            bytes = self.random.pick(&UNREADABLE).to_vec();
+        }
+        let given = match self.random.below(4) {
+            0 => name.to_ascii_uppercase(),
+            _ => name.to_vec(),
+        };
+        let scratch = self.random.pick(&LONG);
+        self.push_answer(&given, status, &bytes, scratch);
+        self.last = name.to_vec();
+        if self.random.percent(self.rate() / 4) {
+            // The same answer again.
+            self.push_answer(&given, status, &bytes, scratch);
+        }
+    }
+
+    /// The verdict by both calls, more than once, and fields of several sizes.
+    fn after_the_verdict(&mut self) {
+        let mut calls = vec![Call::Next, Call::Result, Call::Next, Call::Result];
+        for _ in 0..self.random.between(2, 5) {
+            let size = self.random.pick(&FIELD_SIZES);
+            calls.push(Call::Field { size });
+        }
+        calls.push(Call::Answer(AnswerCall {
+            status: Status::None,
+            scratch: 4096,
+            name: self.last.clone(),
+            bytes: Vec::new(),
+        }));
+        self.random.shuffle(&mut calls);
+        for call in calls {
+            self.push(call);
+            if self.random.percent(8) {
+                self.refuse_start();
+            }
+        }
+    }
+}

@@ -1,0 +1,155 @@
+//! The line that must be printed for a case, by the second evaluator.
+
+use std::borrow::Cow;
+
+use super::case::{AnswerCase, Case, FieldCase, Method, NameCase};
+use crate::programs::cases::{sums, used, written_words, FILL};
+use crate::written::hex;
+use evaluator::book::Book;
+use evaluator::policy::{self, Mode, Psd, Request, Settings};
+use evaluator::refusal::Refusal;
+use evaluator::report::{self, FileName};
+use evaluator::start::{GivenIdentifier, GivenMessage};
+use evaluator::txt::{self, Answer, Reply};
+
+/// How many octets of the scratch a line shows.
+const SHOWN_SCRATCH: usize = 40;
+
+const AUTHOR: &[u8] = b"example.com";
+const ASKED: &[u8] = b"_dmarc.example.com";
+/// An answer with which the verdict follows at once.
+const OWN_RECORD: &[u8] = b"TX\0\x13\x12v=DMARC1; p=reject";
+
+/// The line, without its end.
+pub fn line(case: &Case) -> String {
+    match case {
+        Case::Policy(text) => policy_line(text),
+        Case::Answer(given) => answer_line(given),
+        Case::FileName(given) => name_line(given),
+        Case::Field(given) => field_line(given),
+    }
+}
+
+fn policy_line(text: &[u8]) -> String {
+    let words = match policy::read(text) {
+        Some(settings) => settings_words(&settings),
+        None => "none".to_string(),
+    };
+    let rua = policy::rua_text(text);
+    format!("policy {words} rua={}:{}", rua.len(), ascii(rua))
+}
+
+fn answer_line(given: &AnswerCase) -> String {
+    let answer = Answer {
+        status: given.status,
+        bytes: &given.bytes,
+    };
+    let mut scratch = vec![FILL; usize::from(given.scratch)];
+    let taken = asking(&[]).and_then(|mut book| book.answer(ASKED, answer, &mut scratch));
+    let words = match taken {
+        Ok(()) => reply_words(txt::reply(answer)),
+        Err(refusal) => refusal.to_string(),
+    };
+    let used = used(&scratch);
+    let shown = used.get(..SHOWN_SCRATCH).unwrap_or(used);
+    format!("answer {words} scratch={}:{}", sums(&scratch), hex(shown))
+}
+
+fn name_line(given: &NameCase) -> String {
+    let parts = FileName {
+        receiver: &given.receiver,
+        policy_domain: &given.policy_domain,
+        begin: given.begin,
+        end: given.end,
+        id: (given.named != 0).then_some(&given.id),
+    };
+    let mut out = vec![FILL; usize::from(given.size)];
+    let words = written_words(report::file_name(&parts, &mut out));
+    format!("file {words} out={}:{}", sums(&out), ascii(used(&out)))
+}
+
+fn field_line(given: &FieldCase) -> String {
+    let mut out = vec![FILL; usize::from(given.size)];
+    let words = written_words(field(given, &mut out));
+    format!("field {words} out={}:{}", sums(&out), hex(used(&out)))
+}
+
+/// The field of a message with these identifiers, asked for at its verdict.
+fn field(given: &FieldCase, out: &mut [u8]) -> Result<usize, Refusal> {
+    let of_kind = |kind: u8, method: Method| {
+        method.given.then_some(GivenIdentifier {
+            kind,
+            // A pass of the author's own domain is aligned, no pass is not.
+            outcome: u8::from(method.aligned),
+            domain: AUTHOR,
+        })
+    };
+    let both = [of_kind(1, given.dkim), of_kind(0, given.spf)];
+    let identifiers: Vec<GivenIdentifier> = both.into_iter().flatten().collect();
+    let mut book = asking(&identifiers)?;
+    book.answer(ASKED, Answer::records(OWN_RECORD), &mut [0; 4096])?;
+    book.field(out)
+}
+
+/// A book that now asks `_dmarc.example.com`.
+fn asking(identifiers: &[GivenIdentifier]) -> Result<Book, Refusal> {
+    let mut book = Book::default();
+    book.start(&GivenMessage {
+        author: AUTHOR,
+        existence: 1,
+        support: 1,
+        identifiers: identifiers.to_vec(),
+    })?;
+    book.next_step()?;
+    Ok(book)
+}
+
+fn reply_words(reply: Reply) -> String {
+    match reply {
+        Reply::Record(settings) => format!("record {}", settings_words(&settings)),
+        Reply::NoRecord => "none".to_string(),
+        Reply::Error => "error".to_string(),
+    }
+}
+
+fn settings_words(settings: &Settings) -> String {
+    format!(
+        "p={} sp={} np={} adkim={} aspf={} psd={} t={} reports={}",
+        request_word(settings.p),
+        request_word(settings.sp),
+        request_word(settings.np),
+        mode_word(settings.adkim),
+        mode_word(settings.aspf),
+        psd_word(settings.psd),
+        if settings.testing { "y" } else { "n" },
+        if settings.rua_valid { "yes" } else { "no" },
+    )
+}
+
+fn request_word(request: Request) -> &'static str {
+    match request {
+        Request::Absent => "absent",
+        Request::Invalid => "invalid",
+        Request::Valid(policy) => policy.word(),
+    }
+}
+
+fn mode_word(mode: Mode) -> &'static str {
+    match mode {
+        Mode::Relaxed => "r",
+        Mode::Strict => "s",
+    }
+}
+
+fn psd_word(psd: Psd) -> &'static str {
+    match psd {
+        Psd::Yes => "y",
+        Psd::No => "n",
+        Psd::Unset => "u",
+    }
+}
+
+/// A text whose octets are all from 32 to 126, as it stands.
+fn ascii(octets: &[u8]) -> Cow<'_, str> {
+    String::from_utf8_lossy(octets)
+}

@@ -1,0 +1,21 @@
+//! Tests of the descriptions, explanations, worked examples, generators and
+//! cases. What must come out is written by hand from document 01, the agreed
+//! readings (by their point numbers) and RFC 9989.
+
+#[path = "../../../evaluator/tests/documents/octets.rs"]
+mod octets;
+mod stored;
+
+mod appendix_b;
+mod calls;
+mod commands;
+mod coverage;
+mod describing;
+mod examples;
+mod explaining;
+mod generator;
+mod marked;
+mod messages;
+mod script;
+mod timing;
+mod vectors;

@@ -1,0 +1,278 @@
+//! The test vectors: lines written by hand from document 01 and the readings,
+//! found by their cases in the octets that another program reads.
+
+use std::collections::BTreeMap;
+
+use crate::octets::tx;
+use crate::stored::{cases, check_stored, Case};
+use sheets::programs::vectors::files;
+
+fn vectors() -> Vec<Case> {
+    cases(files())
+}
+
+/// Checks the line of a case, which must be there.
+fn check(vectors: &[Case], kind: u8, body: &[u8], expected: &str) {
+    let case = vectors
+        .iter()
+        .find(|(own, octets, _)| *own == kind && octets == body);
+    let (_, _, line) = case.unwrap_or_else(|| panic!("no case {:?}", body.escape_ascii()));
+    assert_eq!(line, expected, "{}", body.escape_ascii());
+}
+
+/// Status, scratch size of 16 bits, bytes.
+fn answer(status: u8, scratch: u16, bytes: &[u8]) -> Vec<u8> {
+    [&[status, (scratch >> 8) as u8, scratch as u8], bytes].concat()
+}
+
+/// The words of a record's settings: the defaults but for these.
+fn settings(changed: &str) -> String {
+    let defaults = "p=absent sp=absent np=absent adkim=r aspf=r psd=u t=n reports=no";
+    let own = |default: &str| {
+        let name = default.split('=').next();
+        let mut changed = changed.split(' ');
+        let found = changed.find(|word| word.split('=').next() == name);
+        found.unwrap_or(default).to_string()
+    };
+    defaults.split(' ').map(own).collect::<Vec<_>>().join(" ")
+}
+
+#[test]
+fn policy_texts() {
+    // Text; `none`, or the settings that are not at their defaults; rua text.
+    let table: [(&[u8], &str, &str); 21] = [
+        // 35
+        (b" v=DMARC1", "none", "0:"),
+        (b"v=DMARC1\r\n", "none", "0:"),
+        (b"V = DMARC1 ", "", "0:"),
+        // 37
+        (b"v=DMARC1; p=reject; sp=no\tne", "p=reject", "0:"),
+        (b"v=DMARC1; p=reject; sp=none\x80", "p=reject", "0:"),
+        (b"v=DMARC1; p=reject; sp=none~", "p=reject sp=invalid", "0:"),
+        (b"v=DMARC1;p=\treject", "p=reject", "0:"),
+        // 38
+        (b"v=DMARC1; p=reject; sp=", "p=reject", "0:"),
+        // 39
+        (b"v=DMARC1; p==reject", "p=invalid", "0:"),
+        // 40
+        (b"v=DMARC1; sp=; sp=none", "sp=none", "0:"),
+        (b"v=DMARC1; p=often; p=reject", "p=invalid", "0:"),
+        (b"v=DMARC1; P=none; p=reject", "p=none", "0:"),
+        // 41
+        (b"v=DMARC1; v=DMARC2; p=none", "p=none", "0:"),
+        // 42
+        (b"v=DMARC1; adkim=strict; aspf=strict", "", "0:"),
+        (b"v=DMARC1; t=Y", "t=y", "0:"),
+        // Marked sheets: E, Y and 12.
+        (
+            b"v=DMARC1; p=reject; sp=quarantine; np=reject; aspf=s",
+            "p=reject sp=quarantine np=reject aspf=s",
+            "0:",
+        ),
+        (b"v=DMARC1; p=reject; psd=y", "p=reject psd=y", "0:"),
+        (
+            b"v=DMARC1; p=often; rua=mailto:r@example.com",
+            "p=invalid reports=yes",
+            "20:mailto:r@example.com",
+        ),
+        // 45, 46, 50
+        (
+            b"v=DMARC1; rua=, ,mailto:r@e.com",
+            "reports=yes",
+            "17:, ,mailto:r@e.com",
+        ),
+        (
+            b"v=DMARC1; p=often; rua=mailto:r@example.com!10m",
+            "p=invalid",
+            "24:mailto:r@example.com!10m",
+        ),
+        (
+            b"v=DMARC1; p=none; rua=mailto:a;b@c",
+            "p=none reports=yes",
+            "8:mailto:a",
+        ),
+    ];
+    let vectors = vectors();
+    for (text, changed, rua) in table {
+        let words = match changed {
+            "none" => "none".to_string(),
+            _ => settings(changed),
+        };
+        check(&vectors, b'P', text, &format!("policy {words} rua={rua}"));
+    }
+}
+
+#[test]
+fn answers() {
+    let two = [tx(&[b"ab"]), tx(&[b"v=DMARC1; p=none"])].concat();
+    let identical = tx(&[b"v=DMARC1; p=none"]).repeat(2);
+    let sixteenth = [tx(&[b"v=DMARC1; p=none"]).repeat(15), b"TX\0\0".to_vec()].concat();
+    // An untouched scratch of n octets has the sum 255 n (n + 1) / 2, less a
+    // multiple of 65,521: 29,025 for 4,096 and 14,025 for 10.
+    let table: [(Vec<u8>, &str); 10] = [
+        // 22
+        (answer(2, 0, b""), "refused 10 at 4096 scratch=0:0:"),
+        (answer(2, 4096, b""), "error scratch=0:29025:"),
+        // 23
+        (answer(1, 4096, &[b'X'; 5000]), "none scratch=0:29025:"),
+        // 24
+        (answer(0, 10, b"TX"), "refused 6 at 0 scratch=0:14025:"),
+        (
+            answer(0, 4096, &sixteenth),
+            "refused 6 at 0 scratch=0:29025:",
+        ),
+        // 26
+        (
+            answer(0, 4096, &tx(&[b"a"]).repeat(17)),
+            "refused 6 at 0 scratch=0:29025:",
+        ),
+        // 28
+        (answer(0, 4096, b""), "none scratch=0:29025:"),
+        // 29: `ab` takes away 158 and 2 times 157, and so on.
+        (
+            answer(0, 4096, &two),
+            "record p=none sp=absent np=absent adkim=r aspf=r psd=u t=n reports=no \
+             scratch=18:65295:6162763d444d415243313b20703d6e6f6e65",
+        ),
+        // 48
+        (
+            answer(0, 4096, &identical),
+            "none scratch=32:3424:763d444d415243313b20703d6e6f6e65763d444d415243313b20703d6e6f6e65",
+        ),
+        // 49
+        (
+            answer(0, 4096, &tx(&[b"v=DMARC1"])),
+            "record p=absent sp=absent np=absent adkim=r aspf=r psd=u t=n reports=no \
+             scratch=8:22275:763d444d41524331",
+        ),
+    ];
+    let vectors = vectors();
+    for (body, line) in table {
+        check(&vectors, b'A', &body, &format!("answer {line}"));
+    }
+}
+
+/// Document 01's example with this begin, id and output size.
+fn example(begin: u64, named: u8, id: &[u8], size: u16) -> Vec<u8> {
+    let mut body = b"\x0cgate.example\x0bexample.com".to_vec();
+    body.extend(begin.to_be_bytes());
+    body.extend(1_700_086_399_u64.to_be_bytes());
+    body.push(named);
+    body.push(id.len() as u8);
+    body.extend(id);
+    body.extend(size.to_be_bytes());
+    body
+}
+
+#[test]
+fn file_names() {
+    let vectors = vectors();
+    let begin = 1_700_000_000;
+    let table: [(Vec<u8>, &str); 5] = [
+        (
+            example(begin, 1, b"r7", 53),
+            "wrote 53 out=53:32096:gate.example!example.com!1700000000!1700086399!r7.xml",
+        ),
+        // 255 (1 + 2 + ... + 52) is 351,390, and 23,785 after 5 times 65,521.
+        (
+            example(begin, 1, b"r7", 52),
+            "refused 10 at 53 out=0:23785:",
+        ),
+        (example(begin, 1, b"r7", 0), "refused 10 at 53 out=0:0:"),
+        (
+            example(begin, 0, b"r7", 700),
+            "wrote 50 out=50:15404:gate.example!example.com!1700000000!1700086399.xml",
+        ),
+        (example(begin, 1, b"", 0), "refused 11 at 0 out=0:0:"),
+    ];
+    for (body, line) in table {
+        check(&vectors, b'F', &body, &format!("file {line}"));
+    }
+}
+
+#[test]
+fn fields() {
+    let head = "4964656e746974792d416c69676e6d656e743a20";
+    let written = |methods: &str| format!("{head}{methods}0d0a");
+    let vectors = vectors();
+    let table: [([u8; 5], String); 6] = [
+        // 100: none 26, dkim 26, spf 25, both 31.
+        (
+            [1, 1, 1, 1, 26],
+            format!("wrote 26 out=26:29630:{}", written("6e6f6e65")),
+        ),
+        (
+            [1, 0, 1, 1, 26],
+            format!("wrote 26 out=26:29409:{}", written("646b696d")),
+        ),
+        (
+            [1, 1, 1, 0, 25],
+            format!("wrote 25 out=25:27126:{}", written("737066")),
+        ),
+        (
+            [1, 0, 1, 0, 31],
+            format!("wrote 31 out=31:40655:{}", written("646b696d2c20737066")),
+        ),
+        (
+            [1, 0, 1, 0, 30],
+            "refused 10 at 31 out=0:53054:".to_string(),
+        ),
+        // 99: SPF alone, aligned.
+        (
+            [0, 0, 1, 1, 26],
+            format!("wrote 26 out=26:29630:{}", written("6e6f6e65")),
+        ),
+    ];
+    for (body, line) in table {
+        check(&vectors, b'I', &body, &format!("field {line}"));
+    }
+}
+
+#[test]
+fn enough_cases_of_each_kind() {
+    let mut counts: BTreeMap<u8, usize> = BTreeMap::new();
+    for (kind, _, line) in vectors() {
+        *counts.entry(kind).or_default() += 1;
+        let printable = |octet: u8| (32..=126).contains(&octet);
+        assert!(line.bytes().all(printable), "{line}");
+    }
+    let least = [(b'A', 60), (b'F', 30), (b'I', 24), (b'P', 80)];
+    assert_eq!(counts.len(), least.len());
+    for (kind, least) in least {
+        assert!(counts[&kind] >= least, "{} of {kind}", counts[&kind]);
+    }
+}
+
+#[test]
+fn all_flags_with_a_method_at_size_64() {
+    let vectors = vectors();
+    for flags in 0..16_u8 {
+        let flag = |bit: u8| flags >> bit & 1;
+        if flag(3) == 0 && flag(1) == 0 {
+            continue;
+        }
+        let body = [flag(3), flag(2), flag(1), flag(0), 64];
+        let there = |(kind, octets, _): &Case| *kind == b'I' && octets[..] == body;
+        assert!(vectors.iter().any(there), "{body:?}");
+    }
+}
+
+#[test]
+fn refused_calls_leave_lent_memory_unchanged() {
+    for (_, _, line) in vectors() {
+        if line.contains(" refused ") {
+            assert!(line.contains("=0:") && line.ends_with(':'), "{line}");
+        }
+    }
+}
+
+#[test]
+fn the_same_files_each_time() {
+    assert!(files() == files());
+}
+
+/// The program that runs the cases through the proved code has them beside it.
+#[test]
+fn the_stored_files_are_these() {
+    check_stored("vectors", files());
+}
