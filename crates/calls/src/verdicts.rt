@@ -1,12 +1,14 @@
-// The lines of the next step and of the result.
+// The lines of the next step, of the result and of the finding.
 use cases::lines;
 use domain::Octet;
 use evaluation::Evaluation;
 use evaluation::Resulting;
 use evaluation::Step;
 use evaluation::Verdict;
+use evaluation_finding::Found;
 use octets::Written;
 use policy::Policy;
+use rows::Finding;
 use verdict::AppliedPolicy;
 use verdict::Disposition;
 use verdict::Result;
@@ -122,6 +124,38 @@ pub fn print_result(e: Evaluation, identifiers: usize, result: Resulting) {
     match result {
         Resulting::Verdict(verdict) => print_verdict(e, identifiers, verdict),
         Resulting::Refused(refusal) => lines::print_refusal(refusal),
+    }
+    lines::print(b"\n");
+}
+
+// Whether a method aligned.
+fn print_flag(aligned: bool) {
+    if aligned {
+        lines::print(b"1");
+    } else {
+        lines::print(b"0");
+    }
+}
+
+// What is entered of a verdict, and the domain of its applied record.
+fn print_entered(e: Evaluation, f: Finding, begin: Octet) {
+    lines::print(b"result=");
+    lines::print_number(f.result as usize);
+    lines::print(b" disposition=");
+    lines::print_number(f.disposition as usize);
+    lines::print(b" dkim=");
+    print_flag(f.dkim);
+    lines::print(b" spf=");
+    print_flag(f.spf);
+    lines::print(b" domain=");
+    print_domain(e, begin);
+}
+
+// What the finding is.
+pub fn print_finding(e: Evaluation, found: Found) {
+    match found {
+        Found::Verdict { finding, begin } => print_entered(e, finding, begin),
+        Found::Refused(refusal) => lines::print_refusal(refusal),
     }
     lines::print(b"\n");
 }

@@ -1,9 +1,11 @@
-//! Compares the proved evaluator with the second one, sheet by sheet.
+//! Compares the proved evaluator with the second one, sheet by sheet, and the
+//! proved daily rows with the second evaluator's, history by history.
 
 #![deny(unsafe_code)]
 
 mod agreement;
 mod cases;
+mod histories;
 mod program;
 #[allow(unsafe_code)]
 mod proved;
@@ -14,6 +16,7 @@ use std::process::ExitCode;
 use agreement::{same, Checker};
 use cases::Case;
 use evaluator::sheet;
+use histories::Proved;
 use sheets::command;
 use sheets::generate::SheetKind;
 use sheets::tally::Tally;
@@ -21,12 +24,14 @@ use sheets::tally::Tally;
 const USAGE: &str = "usage:
   compare sheets ORDINARY HOSTILE SEED
   compare program PATH COUNT SEED
+  compare histories COUNT SEED
   compare time COUNT SEED";
 
 fn main() -> ExitCode {
     command::run(|words| match words {
         ["sheets", ordinary, hostile, seed] => compare_sheets([ordinary, hostile, seed]),
         ["program", path, count, seed] => compare_program(path, [count, seed]),
+        ["histories", count, seed] => compare_histories([count, seed]),
         ["time", count, seed] => print_times([count, seed]),
         _ => Err(USAGE.to_string()),
     })
@@ -101,6 +106,13 @@ fn compare_program(path: &str, words: [&str; 2]) -> Result<(), String> {
         tally.add(&String::from_utf8_lossy(&expected));
     }
     print_agreement(&asked, &tally);
+    Ok(())
+}
+
+/// The daily rows of both, in this process.
+fn compare_histories(words: [&str; 2]) -> Result<(), String> {
+    let [count, seed] = numbers(words)?;
+    println!("{}", histories::compare(&Proved, count, seed)?);
     Ok(())
 }
 

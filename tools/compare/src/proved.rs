@@ -1,4 +1,7 @@
-//! The proved evaluator, by its one C function.
+//! The proved code: the evaluator by its one C function, the daily rows beside
+//! it.
+
+pub mod rows;
 
 extern "C" {
     /// Gives the length of the sheet's output text, which stands in `out` from

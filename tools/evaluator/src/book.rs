@@ -3,6 +3,7 @@
 use crate::evaluate::{evaluate, Evaluation, Progress};
 use crate::refusal::Refusal;
 use crate::report;
+use crate::rows::Finding;
 use crate::start::{self, GivenMessage, Message};
 use crate::txt::{self, Answer, Status};
 use crate::verdict::Verdict;
@@ -113,6 +114,13 @@ impl Book {
         let verdict = self.result()?;
         let message = self.message.as_ref().ok_or(Refusal::new(7, 0))?;
         report::lend(&report::field_text(message, &verdict)?, out)
+    }
+
+    /// What would be entered in a day's rows: 7 while a name lacks an answer.
+    pub fn finding(&self) -> Result<Finding, Refusal> {
+        let verdict = self.result()?;
+        let message = self.message.as_ref().ok_or(Refusal::new(7, 0))?;
+        Ok(Finding::of(message, &verdict))
     }
 
     /// The names asked so far, in order, the one now lacking an answer included.

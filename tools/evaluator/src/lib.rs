@@ -13,6 +13,7 @@ pub mod grounds;
 pub mod policy;
 pub mod refusal;
 pub mod report;
+pub mod rows;
 pub mod sheet;
 pub mod start;
 pub mod txt;

@@ -67,9 +67,13 @@ pub fn field_text(message: &Message, verdict: &Verdict) -> Result<Vec<u8>, Refus
     if !result_fits || message.identifiers.is_empty() {
         return Err(Refusal::new(9, 0));
     }
+    Ok(identity_alignment(&judged(message, verdict)))
+}
+
+/// The kind of each identifier, and its alignment.
+pub fn judged(message: &Message, verdict: &Verdict) -> Vec<(Kind, Alignment)> {
     let kinds = message.identifiers.iter().map(|identifier| identifier.kind);
-    let judged: Vec<(Kind, Alignment)> = kinds.zip(verdict.alignments.iter().copied()).collect();
-    Ok(identity_alignment(&judged))
+    kinds.zip(verdict.alignments.iter().copied()).collect()
 }
 
 /// "`Identity-Alignment: ` then `none`, `dkim`, `spf` or `dkim, spf`, then

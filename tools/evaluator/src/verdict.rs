@@ -58,6 +58,17 @@ impl DmarcResult {
             DmarcResult::Permerror => "permerror",
         }
     }
+
+    /// Its number where a list of rows takes it.
+    pub const fn number(self) -> u8 {
+        match self {
+            DmarcResult::None => 0,
+            DmarcResult::Pass => 1,
+            DmarcResult::Fail => 2,
+            DmarcResult::Temperror => 3,
+            DmarcResult::Permerror => 4,
+        }
+    }
 }
 
 impl AppliedPolicy {
@@ -76,6 +87,16 @@ impl Disposition {
             Disposition::Quarantine => "quarantine",
             Disposition::Reject => "reject",
             Disposition::Defer => "defer",
+        }
+    }
+
+    /// Its number in a row; 3, to defer, stands in none.
+    pub const fn number(self) -> u8 {
+        match self {
+            Disposition::None => 0,
+            Disposition::Quarantine => 1,
+            Disposition::Reject => 2,
+            Disposition::Defer => 3,
         }
     }
 }

@@ -37,7 +37,7 @@ fn main() -> ExitCode {
         ["tally", kind, seed, count] => tallied(kind, seed, count),
         ["marked"] => marked(),
         ["vectors", cases, expected] => write_cases([cases, expected], vectors::files(), "PAFI"),
-        ["calls", cases, expected] => write_cases([cases, expected], calls::files(), "SNARF"),
+        ["calls", cases, expected] => write_cases([cases, expected], calls::files(), "SNARFD"),
         ["timing", count, dir] => write_timing(count, dir),
         ["messages", cases, expected] => write_cases([cases, expected], messages::files(), "M"),
         _ => Err(USAGE.to_string()),

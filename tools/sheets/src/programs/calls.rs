@@ -10,6 +10,9 @@
 //! - `A`, an answer: status (0 records, 1 none, 2 error), 16-bit scratch size,
 //!   name after a length octet, the answer's bytes.
 //! - `F`, the field: 16-bit output size.
+//! - `D`, what would be entered in a day's rows (Ask 1 of document 02): no body.
+//!   Its line has the numbers of result and disposition, whether some identifier
+//!   of a kind is aligned (0, 1), and the applied record's domain.
 
 mod accepted;
 mod call;

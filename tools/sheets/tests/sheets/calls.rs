@@ -33,9 +33,10 @@ fn messages<'a>(calls: &'a [Call], body: &[u8]) -> Vec<&'a [Call]> {
     pairs.map(|pair| pair[1]).collect()
 }
 
-/// The names that a message asks, each once, and its verdicts by both calls.
-fn said(calls: &[Call]) -> (Vec<&str>, Vec<&str>) {
-    let (mut names, mut verdicts) = (Vec::new(), Vec::new());
+/// The names that a message asks, each once, its verdicts by both calls, and
+/// what would be entered of it.
+fn said(calls: &[Call]) -> (Vec<&str>, Vec<&str>, Vec<&str>) {
+    let (mut names, mut verdicts, mut findings) = (Vec::new(), Vec::new(), Vec::new());
     for (_, _, line) in calls {
         let (_, words) = line.split_once(' ').expect("two words");
         if let Some(name) = words.strip_prefix("ask _dmarc.") {
@@ -45,20 +46,22 @@ fn said(calls: &[Call]) -> (Vec<&str>, Vec<&str>) {
             }
         }
         verdicts.extend(words.strip_prefix("verdict "));
+        findings.extend(words.strip_prefix("result="));
     }
-    (names, verdicts)
+    (names, verdicts, findings)
 }
 
 /// Checks that there is a message that asks these names and gives this verdict,
-/// twice by each of both calls.
-fn check(calls: &[Call], body: &[u8], names: &[&str], verdict: &str) {
+/// twice by each of both calls, and twice this finding.
+fn check(calls: &[Call], body: &[u8], names: &[&str], verdict: &str, finding: &str) {
     let said: Vec<_> = messages(calls, body).into_iter().map(said).collect();
-    let expected = (names.to_vec(), vec![verdict; 4]);
+    let expected = (names.to_vec(), vec![verdict; 4], vec![finding; 2]);
     assert!(said.contains(&expected), "{expected:?} is none of {said:?}");
 }
 
-/// Start, names asked, result with policy and disposition, domain, alignments.
-type Row<'a> = (Vec<u8>, &'a [&'a str], &'a str, &'a str, &'a str);
+/// Start, names asked, result with policy and disposition, domain, alignments,
+/// and the numbers of result, disposition, DKIM and SPF that would be entered.
+type Row<'a> = (Vec<u8>, &'a [&'a str], &'a str, &'a str, &'a str, [u8; 4]);
 
 /// A verdict's words: result, policy and disposition are the first three.
 fn verdict(count: usize, words: &str, domain: &str, alignments: &str) -> String {
@@ -67,6 +70,11 @@ fn verdict(count: usize, words: &str, domain: &str, alignments: &str) -> String 
         "{result} policy={policy} disposition={disposition} domain={domain} \
          alignments={alignments} count={count}"
     )
+}
+
+/// The words of what would be entered, after `result=`.
+fn finding([result, disposition, dkim, spf]: [u8; 4], domain: &str) -> String {
+    format!("{result} disposition={disposition} dkim={dkim} spf={spf} domain={domain}")
 }
 
 #[test]
@@ -86,14 +94,23 @@ fn marked_sheets() {
             "pass reject none",
             "example.com",
             "a",
+            [1, 0, 1, 0],
         ),
-        (example(1), own, "fail reject reject", "example.com", "n"),
+        (
+            example(1),
+            own,
+            "fail reject reject",
+            "example.com",
+            "n",
+            [2, 2, 0, 0],
+        ),
         (
             example(0),
             own,
             "fail reject quarantine",
             "example.com",
             "n",
+            [2, 1, 0, 0],
         ),
         (
             news(1),
@@ -101,9 +118,24 @@ fn marked_sheets() {
             "fail quarantine quarantine",
             "example.com",
             "",
+            [2, 1, 0, 0],
         ),
-        (news(0), &walk, "fail reject reject", "example.com", ""),
-        (news(2), &walk, "temperror unknown defer", "example.com", ""),
+        (
+            news(0),
+            &walk,
+            "fail reject reject",
+            "example.com",
+            "",
+            [2, 2, 0, 0],
+        ),
+        (
+            news(2),
+            &walk,
+            "temperror unknown defer",
+            "example.com",
+            "",
+            [3, 3, 0, 0],
+        ),
         // 5: an error at example.com.
         (
             news(1),
@@ -111,6 +143,7 @@ fn marked_sheets() {
             "temperror unknown defer",
             "",
             "",
+            [3, 3, 0, 0],
         ),
         (
             start(1, 1, b"a.shop.example", &dkim(b"shop.example")),
@@ -118,6 +151,7 @@ fn marked_sheets() {
             "pass reject none",
             "example",
             "a",
+            [1, 0, 1, 0],
         ),
         (
             start(1, 1, b"example", &dkim(b"shop.example")),
@@ -125,6 +159,7 @@ fn marked_sheets() {
             "fail reject reject",
             "example",
             "n",
+            [2, 2, 0, 0],
         ),
         (
             start(1, 1, b"EXAMPLE.com", &spf(b"example.COM")),
@@ -132,6 +167,7 @@ fn marked_sheets() {
             "pass reject none",
             "example.com",
             "a",
+            [1, 0, 0, 1],
         ),
         (
             start(1, 1, b"a.b.c.d.e.f.g.h.test", &[]),
@@ -148,6 +184,7 @@ fn marked_sheets() {
             "none none none",
             "",
             "",
+            [0, 0, 0, 0],
         ),
         // 10 to 12
         (
@@ -156,14 +193,36 @@ fn marked_sheets() {
             "fail quarantine quarantine",
             "example.com",
             "",
+            [2, 1, 0, 0],
         ),
-        (alone(), &["example.com", "com"], "none none none", "", ""),
-        (alone(), own, "permerror none none", "example.com", ""),
-        (alone(), own, "fail none none", "example.com", ""),
+        (
+            alone(),
+            &["example.com", "com"],
+            "none none none",
+            "",
+            "",
+            [0, 0, 0, 0],
+        ),
+        (
+            alone(),
+            own,
+            "permerror none none",
+            "example.com",
+            "",
+            [4, 0, 0, 0],
+        ),
+        (
+            alone(),
+            own,
+            "fail none none",
+            "example.com",
+            "",
+            [2, 0, 0, 0],
+        ),
     ];
-    for (body, names, words, domain, alignments) in table {
+    for (body, names, words, domain, alignments, entered) in table {
         let verdict = verdict(names.len(), words, domain, alignments);
-        check(&calls, &body, names, &verdict);
+        check(&calls, &body, names, &verdict, &finding(entered, domain));
     }
 }
 
@@ -178,7 +237,7 @@ fn as_many_names_as_there_can_be() {
         .collect();
     let body = start(1, 1, b"a.b.c.d.e.f.g.t", &identifiers);
     let found = messages(&calls, &body);
-    let (names, verdicts) = said(found[0]);
+    let (names, verdicts, findings) = said(found[0]);
     assert_eq!(names.len(), 136);
     let all = verdict(
         136,
@@ -187,6 +246,8 @@ fn as_many_names_as_there_can_be() {
         &"n".repeat(16),
     );
     assert_eq!(verdicts, vec![all; 4]);
+    let entered = finding([2, 2, 0, 0], "a.b.c.d.e.f.g.t");
+    assert_eq!(findings, vec![entered; 2]);
 }
 
 #[test]
@@ -251,7 +312,7 @@ fn authors_over_253_octets() {
 
 #[test]
 fn nothing_started() {
-    let lines: Vec<String> = calls().into_iter().take(6).map(|call| call.2).collect();
+    let lines: Vec<String> = calls().into_iter().take(7).map(|call| call.2).collect();
     // An untouched memory of n octets has the sum 255 n (n + 1) / 2, less a
     // multiple of 65,521: 6,232 for 64 and 29,025 for 4,096.
     let expected = [
@@ -259,6 +320,7 @@ fn nothing_started() {
         "result refused 7 at 0",
         "field refused 7 at 0 out=0:0:",
         "field refused 7 at 0 out=0:6232:",
+        "finding refused 7 at 0",
         "answer refused 5 at 0 scratch=0:29025",
         "answer refused 5 at 0 scratch=0:0",
     ];
@@ -287,6 +349,12 @@ fn every_refusal_of_every_call() {
         ("field 7", 100),
         ("field 9", 100),
         ("field wrote", 100),
+        ("finding 7", 50),
+        ("finding result=0", 15),
+        ("finding result=1", 50),
+        ("finding result=2", 50),
+        ("finding result=3", 50),
+        ("finding result=4", 10),
         ("next 7", 3),
         ("next ask", 500),
         ("next verdict", 200),
@@ -303,6 +371,41 @@ fn every_refusal_of_every_call() {
     for (key, least) in least {
         assert!(counts[key] >= least, "{} of {key}", counts[key]);
     }
+}
+
+/// What would be entered is asked for at a start, at an asked name, between two
+/// names, where the last answer came, and where the verdict was given; and it is
+/// there exactly at the verdict.
+#[test]
+fn findings_come_everywhere() {
+    let calls = calls();
+    let mut places: BTreeMap<(&str, bool), usize> = BTreeMap::new();
+    for pair in calls.windows(2) {
+        let [(_, _, before), (b'D', body, line)] = pair else {
+            continue;
+        };
+        assert!(body.is_empty());
+        let given = line != "finding refused 7 at 0";
+        let kinds = [
+            "start accepted",
+            "next ask",
+            "answer accepted",
+            "next verdict",
+        ];
+        let kind = kinds.into_iter().find(|kind| before.starts_with(kind));
+        *places.entry((kind.unwrap_or("other"), given)).or_default() += 1;
+    }
+    let least = [
+        ("answer accepted", false),
+        ("answer accepted", true),
+        ("next ask", false),
+        ("next verdict", true),
+        ("other", false),
+        ("other", true),
+        ("start accepted", false),
+    ];
+    assert_eq!(places.keys().copied().collect::<Vec<_>>(), least);
+    assert!(places.values().all(|count| *count >= 5), "{places:?}");
 }
 
 /// Scratch sizes and bytes of the answers that were accepted.

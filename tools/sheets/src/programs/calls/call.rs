@@ -5,6 +5,7 @@ use crate::programs::cases::{self, push_counted, sums, used, written_words, FILL
 use crate::written::hex;
 use evaluator::book::{Book, Step};
 use evaluator::refusal::Refusal;
+use evaluator::rows::Finding;
 use evaluator::start::GivenMessage;
 use evaluator::txt::{Answer, Status};
 use evaluator::verdict::{Alignment, Verdict};
@@ -17,6 +18,7 @@ pub enum Call {
     Answer(AnswerCall),
     Result,
     Field { size: u16 },
+    Finding,
 }
 
 /// A message as it is handed over.
@@ -45,6 +47,7 @@ impl Call {
             Call::Answer(_) => b'A',
             Call::Result => b'R',
             Call::Field { .. } => b'F',
+            Call::Finding => b'D',
         }
     }
 
@@ -54,7 +57,7 @@ impl Call {
             Call::Start(given) => start_body(given)?,
             Call::Answer(given) => answer_body(given)?,
             Call::Field { size } => size.to_be_bytes().to_vec(),
-            Call::Next | Call::Result => Vec::new(),
+            Call::Next | Call::Result | Call::Finding => Vec::new(),
         };
         cases::octets(self.kind(), &body)
     }
@@ -75,6 +78,7 @@ impl Call {
                 let words = written_words(book.field(&mut out));
                 format!("field {words} out={}:{}", sums(&out), hex(used(&out)))
             }
+            Call::Finding => format!("finding {}", finding_words(book.finding())),
         }
     }
 }
@@ -145,6 +149,21 @@ fn verdict_words(verdict: &Verdict) -> String {
         String::from_utf8_lossy(&verdict.domain),
         verdict.asked,
     )
+}
+
+/// What would be entered, by its numbers.
+fn finding_words(finding: Result<Finding, Refusal>) -> String {
+    match finding {
+        Ok(found) => format!(
+            "result={} disposition={} dkim={} spf={} domain={}",
+            found.result,
+            found.disposition,
+            u8::from(found.dkim),
+            u8::from(found.spf),
+            String::from_utf8_lossy(&found.domain),
+        ),
+        Err(refusal) => refusal.to_string(),
+    }
 }
 
 fn alignment_letter(alignment: &Alignment) -> char {

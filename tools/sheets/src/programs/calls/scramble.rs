@@ -117,6 +117,7 @@ impl Scrambler {
             self.push(Call::Result);
             self.push(Call::Field { size: 0 });
             self.push(Call::Field { size: 64 });
+            self.push(Call::Finding);
             self.push_answer(b"_dmarc.example.com", Status::Records, RECORD, 4096);
             self.push_answer(b"", Status::Error, b"", 0);
             self.refuse_start();
@@ -138,8 +139,10 @@ impl Scrambler {
         self.push_answer(name, Status::Records, &full_answer(most + 1), 65_535);
         self.push_answer(name, Status::Records, &full_answer(most), 4095);
         self.push_answer(name, Status::Records, &full_answer(most), 4096);
+        self.push(Call::Finding);
         self.push(Call::Next);
         self.push(Call::Field { size: 0 });
+        self.push(Call::Finding);
     }
 
     /// One message from its start to after its verdict.
@@ -177,8 +180,9 @@ impl Scrambler {
     fn disturb(&mut self) {
         let rate = self.rate();
         while self.random.percent(rate) {
-            match self.random.below(8) {
+            match self.random.below(9) {
                 0 => self.push(Call::Result),
+                8 => self.push(Call::Finding),
                 1 | 2 => {
                     let size = self.random.pick(&FIELD_SIZES);
                     self.push(Call::Field { size });
@@ -276,9 +280,11 @@ impl Scrambler {
         }
     }
 
-    /// The verdict by both calls, more than once, and fields of several sizes.
+    /// The verdict by both calls and what would be entered of it, each more than
+    /// once, and fields of several sizes.
     fn after_the_verdict(&mut self) {
-        let mut calls = vec![Call::Next, Call::Result, Call::Next, Call::Result];
+        let twice = [Call::Next, Call::Result, Call::Finding];
+        let mut calls = [twice.clone(), twice].concat();
         for _ in 0..self.random.between(2, 5) {
             let size = self.random.pick(&FIELD_SIZES);
             calls.push(Call::Field { size });

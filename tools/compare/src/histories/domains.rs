@@ -1,0 +1,95 @@
+//! Policy domains: good ones, bad ones, and ones near another.
+
+use sheets::random::Random;
+
+/// Labels as long as can be, parted by dots: 255 octets.
+fn too_long() -> Vec<u8> {
+    ["x".repeat(63).as_str(); 4].join(".").into_bytes()
+}
+
+/// A good domain of 253 octets.
+pub fn longest() -> Vec<u8> {
+    too_long().split_off(2)
+}
+
+/// Domains that keep the rule.
+pub fn good() -> Vec<Vec<u8>> {
+    let mut good: Vec<Vec<u8>> = [
+        "example.com",
+        "example.org",
+        "example.co",
+        "c",
+        "a-b._9.Test",
+    ]
+    .map(|domain| domain.as_bytes().to_vec())
+    .to_vec();
+    good.push([&[b'z'; 63], b".com".as_slice()].concat());
+    good.push(longest());
+    good
+}
+
+/// Domains that break the rule.
+pub fn bad() -> Vec<Vec<u8>> {
+    let mut bad: Vec<Vec<u8>> = [
+        "",
+        ".",
+        "..",
+        ".com",
+        "example.com.",
+        "a..b",
+        "a b.c",
+        "*.com",
+    ]
+    .map(|domain| domain.as_bytes().to_vec())
+    .to_vec();
+    // Beside letters, digits, `-` and `_`, and far from them.
+    for octet in b"@[`{/:,^\0\r\x7f\x80\xe1\xff" {
+        bad.push([b"a", [*octet].as_slice(), b".com"].concat());
+    }
+    bad.push([&[b'z'; 64], b".com".as_slice()].concat());
+    bad.push([b"a.", [b'z'; 64].as_slice()].concat());
+    bad.push(too_long().split_off(1));
+    bad.push(too_long());
+    bad.push([too_long(), b".com".repeat(20)].concat());
+    bad
+}
+
+/// A domain in any case.
+pub fn any_case(random: &mut Random, domain: &[u8]) -> Vec<u8> {
+    match random.below(4) {
+        0 => domain.to_ascii_lowercase(),
+        1 => domain.to_ascii_uppercase(),
+        2 => domain.to_vec(),
+        _ => {
+            let mut mixed = domain.to_vec();
+            for octet in &mut mixed {
+                if random.percent(50) && octet.is_ascii_alphabetic() {
+                    *octet ^= 0x20;
+                }
+            }
+            mixed
+        }
+    }
+}
+
+/// A text near a domain, now and then the same in another case.
+pub fn near(random: &mut Random, domain: &[u8]) -> Vec<u8> {
+    let mut text = domain.to_vec();
+    match random.below(8) {
+        0 => text.push(b'.'),
+        1 => text.push(b'x'),
+        2 => text.insert(0, b'x'),
+        3 => {
+            text.pop();
+        }
+        4 => text.clear(),
+        _ => {
+            let bit = random.pick(&[0x20, 0x20, 0x40, 0x80, 1]);
+            let at = random.below(text.len());
+            if let Some(octet) = text.get_mut(at) {
+                *octet ^= bit;
+            }
+        }
+    }
+    text
+}
