@@ -14,7 +14,6 @@ use Rattle.verdict_apply.specs.declared.Judgement.{Judgement}
 use Rattle.verdict_apply.specs.declared.Judged.{Judged}
 use Rattle.verdict_apply.specs.code.Judging.{stored-message, verdict-in, as-numbers, Fixed, judged-standing}
 use Rattle.book.specs.Book.{method}
-use Rattle.rows.specs.declared.Finding.{Finding}
 use Rattle.rows.specs.Rows.{result-number, disposition-number, finding-of}
 use Rattle.evaluation.specs.declared.Evaluation.{Evaluation}
 use Rattle.evaluation.specs.code.View.{view, view-standing}

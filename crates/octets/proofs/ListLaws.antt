@@ -1,5 +1,5 @@
 -- Laws of tests over lists, and over the octets of a text.
-use mathlib.Core.Path.{_≡_, refl}
+use mathlib.Core.Path.{_≡_, refl, ap₂, _∙_}
 use mathlib.Core.List.{List, [], _∷_, _++_}
 use mathlib.Core.Option.{none as nothing, some as just}
 use mathlib.Core.Bool.{Bool, true, false, _&&_, _||_}
@@ -15,6 +15,18 @@ pub any-append : {A : Type 0} (f : A → Bool) (a b : List A) → any f (a ++ b)
 unfolding any
 any-append f [] b = refl
 any-append f (x ∷ a) b = elim (f x) as (λ t. (t || any f (a ++ b)) ≡ ((t || any f a) || any f b)) [ true ↦ refl | false ↦ any-append f a b ]
+
+-- a test that is one of two
+exchange : (a b c d : Bool) → ((a || b) || (c || d)) ≡ ((a || c) || (b || d))
+exchange true b c d = refl
+exchange false true true d = refl
+exchange false true false d = refl
+exchange false false c d = refl
+
+pub any-either : {A : Type 0} (f g h : A → Bool) → ((x : A) → h x ≡ (f x || g x)) → (l : List A) → any h l ≡ (any f l || any g l)
+unfolding any
+any-either f g h e [] = refl
+any-either f g h e (x ∷ l) = ap₂ _||_ (e x) (any-either f g h e l) ∙ exchange (f x) (g x) (any f l) (any g l)
 
 -- ------------------------------------------------------------------ numbers of a list
 

@@ -2,3 +2,4 @@
 pub mod Tags
 pub mod Reports
 pub mod Records
+pub mod Repeated

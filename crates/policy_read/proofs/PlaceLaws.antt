@@ -10,12 +10,12 @@ use lib.ListN.{length, take, drop, length-append, length-take, length-drop}
 use lib.Seq.{take-append-seam, drop-append-seam, drop-drop}
 use Rattle.octets.specs.Octets.{Octets, if_then_else_, is-empty, same, onto-first, split, trim-end, trim}
 use Rattle.octets.proofs.PartLaws.{split-found, split-other}
-use Rattle.octets.proofs.TextLaws.{true→T}
 use Rattle.policy.specs.declared.Bounds.{Bounds}
 use Rattle.policy.specs.Records.{read}
-use Rattle.policy.specs.Tags.{Tag, name-and-value, well-formed, tag-of, add-tag, tags-from, first-tag}
-use Rattle.policy_tags.specs.code.TagValues.{tags-at, bounds-of}
-use Rattle.policy_tags.proofs.TagLaws.{End, end-part, trim-end-front, has-value}
+use Rattle.policy.specs.Tags.{Tag, name-and-value, well-formed, tag-of, add-tag, tags-from, tag-named}
+use Rattle.policy_tags.specs.code.TagValues.{tags-at}
+use Rattle.policy_tags.proofs.TagLaws.{End, end-part, trim-end-front, has-value, some-length}
+use Rattle.policy_gather.specs.code.Gathering.{bounds-of}
 
 -- ------------------------------------------------------------------ the parts of a text, one after the other
 
@@ -94,13 +94,13 @@ pub Held : Octets → Option Tag → Type 0
 Held s nothing = Unit
 Held s (just t) = Stands s t
 
-held-first : (s n : Octets) (ts : List Tag) → AllStand s ts → Held s (first-tag n ts)
-unfolding first-tag AllStand Held
-held-first s n [] a = tt
-held-first s n (t ∷ ts) a =
-    elim (same (t .name) n) as (λ b. Held s (if b then just t else first-tag n ts)) [
+held-named : (s n : Octets) (ts : List Tag) → AllStand s ts → Held s (tag-named n ts)
+unfolding tag-named AllStand Held
+held-named s n [] a = tt
+held-named s n (t ∷ ts) a =
+    elim (same (t .name) n) as (λ b. Held s (if b then just t else tag-named n ts)) [
       | true ↦ a .0
-      | false ↦ held-first s n ts (a .1)
+      | false ↦ held-named s n ts (a .1)
     ]
 
 pub held-none : (s : Octets) → Held s nothing
@@ -108,13 +108,9 @@ unfolding Held
 held-none s = tt
 
 -- so of the tags from a place of the text on
-pub held : (s n : Octets) (at : ℕ) → Held s (first-tag n (tags-at at s))
+pub held : (s n : Octets) (at : ℕ) → Held s (tag-named n (tags-at at s))
 unfolding tags-at
-held s n at = held-first s n (tags-at at s) (stands-tags s at (split 59 (drop at s)) (placed-split 59 (drop at s)))
-
-some-length : (v : Octets) → is-empty v ≡ false → (length v ≡ 0 → ⊥)
-some-length [] e h = true→T {b = false} (cc e)
-some-length (x ∷ v) e h = omega arith
+held s n at = held-named s n (tags-at at s) (stands-tags s at (split 59 (drop at s)) (placed-split 59 (drop at s)))
 
 -- its bounds lie in the text
 bounds-fit : (s : Octets) (o : Option Tag) → Held s o → bounds-of o .begin + bounds-of o .length ≤ length s
@@ -132,10 +128,8 @@ module _ (s : Octets) (o : Option Tag) (h : Held s o) (b : Bounds) (e : b ≡ bo
   pub held-fits : b .begin + b .length ≤ length s
   held-fits = rw e (bounds-fit s o h)
 
-  pub held-cut : take (b .begin + b .length - b .begin) (drop (b .begin) s) ≡ read [] (λ v. v) o
-  held-cut =
-      let size : b .begin + b .length - b .begin ≡ b .length = omega arith in
-      rw (size, e) (bounds-cut s o h)
+  pub held-cut : take (b .length) (drop (b .begin) s) ≡ read [] (λ v. v) o
+  held-cut = rw e (bounds-cut s o h)
 
 -- ------------------------------------------------------------------ what a value says
 

@@ -1,49 +1,86 @@
 -- Laws of what a text sets.
-use mathlib.Core.Bool.{Bool, true, false, not}
-use mathlib.Core.List.{List, []}
+use mathlib.Core.Bool.{true, false, not}
+use mathlib.Core.List.{List, [], _∷_}
 use mathlib.Core.Option.{Option, none as nothing, some as just}
 use mathlib.Core.Path.{_≡_, refl, ap, sym, _∙_}
-use Prim.Native.Nat.{ℕ, _+_, _-_, _≤_}
-use native.Mathlib.Nat.{zero-add}
+use Prim.Native.Nat.{ℕ, _+_, _-_, _≤_, _<_}
 use native.Mathlib.Omega.{arith}
 use lib.Dec.{eqb}
 use lib.ListN.{length, take, drop}
 use Rattle.octets.specs.Octets.{Octets, octets, if_then_else_, any, same, lower, split, front, after, trim-end, trim}
-use Rattle.octets.proofs.PartLaws.{split-first}
 use Rattle.policy.specs.declared.Bounds.{Bounds}
 use Rattle.policy.specs.declared.Mode.{Mode}
 use Rattle.policy.specs.declared.Psd.{Psd}
 use Rattle.policy.specs.declared.Reading.{Reading}
-use Rattle.policy.specs.Records.{word, mode-words, psd-words, testing-words, read, settings, record-of, read-policy, rua-of, rua-text, rua-begin, rua-length, rua-bounds}
+use Rattle.policy.specs.declared.Setting.{Setting}
+use Rattle.policy.specs.Records.{word, policy-words, mode-words, psd-words, testing-words, read, settings, record-of, read-policy, rua-of, rua-text, rua-begin, rua-length, rua-bounds}
 use Rattle.policy.specs.Reports.{valid-entry, has-valid-entry}
-use Rattle.policy.specs.Tags.{Tag, later-tags, has-version, parts, tags, first-tag}
-use Rattle.policy_tags.specs.code.TagValues.{later-parts, tags-at, bounds-of}
-use Rattle.policy_tags.proofs.TagLaws.{tags-next}
-use Rattle.policy_read.proofs.PlaceLaws.{Held, held-none, held, held-fits, read-either}
+use Rattle.policy.specs.Tags.{Tag, later-tags, parts, is-record, tags, tag-named}
+use Rattle.policy_words.specs.code.Rows.{tag-names, tag-name}
+use Rattle.policy_gather.specs.declared.Gathered.{Gathered}
+use Rattle.policy_gather.specs.code.Gathering.{bounds-of, bounds-at, Gathers}
+use Rattle.policy_gather.proofs.StartLaws.{later}
+use Rattle.policy_read.specs.code.Values.{value-at, policy-setting, settings-from}
+use Rattle.policy_read.proofs.PlaceLaws.{Held, held-none, held, held-fits, held-cut, read-none, read-some, read-either}
+
+-- ------------------------------------------------------------------ the setting of p, sp or np
+
+pub empty-value : (v : Octets) → length v ≡ 0 → Setting.Absent ≡ policy-setting v
+unfolding policy-setting
+empty-value [] h = refl
+empty-value (x ∷ v) h = absurd (omega arith)
+
+pub some-value : (v : Octets) → (length v ≡ 0 → ⊥) → word policy-words Setting.Invalid v ≡ policy-setting v
+unfolding policy-setting
+some-value [] h = absurd (h refl)
+some-value (x ∷ v) h = refl
+
+-- ------------------------------------------------------------------ values that set what holds where they are absent
+
+module _ (o : Option Tag) (v : Octets) (e : v ≡ read [] (λ l. l) o) where
+  policy-value : (s : Octets) → Held s o → policy-setting v ≡ read Setting.Absent (word policy-words Setting.Invalid) o
+  policy-value s h = go v refl
+    where
+      go : (l : Octets) → v ≡ l → policy-setting v ≡ read Setting.Absent (word policy-words Setting.Invalid) o
+      go [] q = sym (empty-value v (ap length q)) ∙ read-none Setting.Absent (word policy-words Setting.Invalid) s o h v e (ap length q)
+      go (x ∷ l) q =
+          let some : length v ≡ 0 → ⊥ = λ z. omega (arith, ap length q, z) in
+          sym (some-value v some) ∙ read-some Setting.Absent (word policy-words Setting.Invalid) o v e some
+
+  mode-value : word mode-words Mode.Relaxed v ≡ read Mode.Relaxed (word mode-words Mode.Relaxed) o
+  unfolding word mode-words octets same lower
+  mode-value = read-either Mode.Relaxed (word mode-words Mode.Relaxed) refl o v e
+
+  psd-value : word psd-words Psd.Unset v ≡ read Psd.Unset (word psd-words Psd.Unset) o
+  unfolding word psd-words octets same lower
+  psd-value = read-either Psd.Unset (word psd-words Psd.Unset) refl o v e
+
+  testing-value : word testing-words false v ≡ read false (word testing-words false) o
+  unfolding word testing-words octets same lower
+  testing-value = read-either false (word testing-words false) refl o v e
+
+  reports-value : has-valid-entry v ≡ read false has-valid-entry o
+  unfolding has-valid-entry valid-entry any split after trim-end trim
+  reports-value = read-either false has-valid-entry refl o v e
+
+settings-values : (s : Octets) (ts : List Tag) (value : ℕ → Octets) → ((n : Octets) → Held s (tag-named n ts)) → ((k : ℕ) → k < 8 → value k ≡ read [] (λ l. l) (tag-named (tag-name k) ts)) → settings-from value ≡ settings ts
+unfolding settings-from settings tag-name tag-names
+settings-values s ts value h e = rw (
+  policy-value (tag-named (octets "p") ts) (value 0) (e 0 (omega arith)) s (h (octets "p")),
+  policy-value (tag-named (octets "sp") ts) (value 1) (e 1 (omega arith)) s (h (octets "sp")),
+  policy-value (tag-named (octets "np") ts) (value 2) (e 2 (omega arith)) s (h (octets "np")),
+  mode-value (tag-named (octets "adkim") ts) (value 3) (e 3 (omega arith)),
+  mode-value (tag-named (octets "aspf") ts) (value 4) (e 4 (omega arith)),
+  psd-value (tag-named (octets "psd") ts) (value 5) (e 5 (omega arith)),
+  testing-value (tag-named (octets "t") ts) (value 6) (e 6 (omega arith)),
+  reports-value (tag-named (octets "rua") ts) (value 7) (e 7 (omega arith)),
+)
 
 -- ------------------------------------------------------------------ the tags of a text
 
 module _ (s : Octets) where
-  later : later-tags (parts s) ≡ tags-at (length (front (λ x. not (eqb x 59)) s) + 1) s
-  unfolding later-tags parts
-  later = rw (split-first 59 s) (simp zero-add at (tags-next 0 s))
-
-  no-tags : later-parts s ≡ 0 → nothing ≡ tags s
-  unfolding later-parts tags
-  no-tags = go (has-version (parts s)) refl
-    where
-      go : (b : Bool) → has-version (parts s) ≡ b → (if has-version (parts s) then length (front (λ x. not (eqb x 59)) s) + 1 else 0) ≡ 0 → nothing ≡ (if has-version (parts s) then just (later-tags (parts s)) else nothing)
-      go true e h = absurd (omega (arith, rw e at h))
-      go false e h = rw e
-
-  some-tags : (later-parts s ≡ 0 → ⊥) → just (tags-at (later-parts s) s) ≡ tags s
-  unfolding later-parts tags
-  some-tags = go (has-version (parts s)) refl
-    where
-      go : (b : Bool) → has-version (parts s) ≡ b → ((if has-version (parts s) then length (front (λ x. not (eqb x 59)) s) + 1 else 0) ≡ 0 → ⊥)
-          → just (tags-at (if has-version (parts s) then length (front (λ x. not (eqb x 59)) s) + 1 else 0) s) ≡ (if has-version (parts s) then just (later-tags (parts s)) else nothing)
-      go true e h = rw e (ap just (sym later))
-      go false e h = absurd (rw e at h refl)
+  later-held : (n : Octets) → Held s (tag-named n (later-tags (parts s)))
+  later-held n = rw (later s) (held s n (length (front (λ x. not (eqb x 59)) s) + 1))
 
   -- its rua text
   rua-found : bounds-of (rua-of (tags s)) ≡ rua-bounds s
@@ -57,8 +94,8 @@ module _ (s : Octets) where
   rua-held : Held s (rua-of (tags s))
   unfolding tags rua-of
   rua-held =
-      elim (has-version (parts s)) as (λ b. Held s (rua-of (if b then just (later-tags (parts s)) else nothing))) [
-        | true ↦ rw later (held s (octets "rua") (length (front (λ x. not (eqb x 59)) s) + 1))
+      elim (is-record (parts s)) as (λ b. Held s (rua-of (if b then just (later-tags (parts s)) else nothing))) [
+        | true ↦ later-held (octets "rua")
         | false ↦ held-none s
       ]
 
@@ -74,42 +111,23 @@ module _ (s : Octets) where
 
   -- ------------------------------------------------------------------ what a text is
 
-  module _ (from : ℕ) (e : from ≡ later-parts s) where
-    pub no-record : from ≡ 0 → Reading.NoRecord ≡ read-policy s
-    unfolding read-policy record-of
-    no-record h = ap record-of (no-tags (sym e ∙ h))
+  pub no-record : is-record (parts s) ≡ false → Reading.NoRecord ≡ read-policy s
+  unfolding read-policy record-of tags
+  no-record v = rw v
 
-    pub one-record : (from ≡ 0 → ⊥) → Reading.Record (settings (tags-at from s)) ≡ read-policy s
-    unfolding read-policy record-of
-    one-record h = ap (λ (k : ℕ). Reading.Record (settings (tags-at k s))) e ∙ ap record-of (some-tags (λ z. h (e ∙ z)))
+  pub no-rua : is-record (parts s) ≡ false → bounds-of nothing ≡ rua-bounds s
+  unfolding tags rua-of
+  no-rua v = rw v at rua-found
 
-    -- and where its rua text stands
-    pub no-rua : from ≡ 0 → bounds-of nothing ≡ rua-bounds s
-    unfolding rua-of
-    no-rua h = ap (λ (o : Option (List Tag)). bounds-of (rua-of o)) (no-tags (sym e ∙ h)) ∙ rua-found
+  module _ (g : Gathered) (w : Gathers s g) (v : g .valid ≡ true) where
+    valued : (k : ℕ) → k < 8 → value-at s g k ≡ read [] (λ l. l) (tag-named (tag-name k) (later-tags (parts s)))
+    unfolding value-at bounds-at
+    valued k h = held-cut s (tag-named (tag-name k) (later-tags (parts s))) (later-held (tag-name k)) (bounds-at g k) (w .placed v k h)
 
-    pub one-rua : (from ≡ 0 → ⊥) → bounds-of (first-tag (octets "rua") (tags-at from s)) ≡ rua-bounds s
-    unfolding rua-of
-    one-rua h =
-        ap (λ (k : ℕ). bounds-of (first-tag (octets "rua") (tags-at k s))) e
-        ∙ ap (λ (o : Option (List Tag)). bounds-of (rua-of o)) (some-tags (λ z. h (e ∙ z)))
-        ∙ rua-found
+    pub one-record : Reading.Record (settings-from (value-at s g)) ≡ read-policy s
+    unfolding read-policy record-of tags
+    one-record = rw (sym (w .judged) ∙ v) (ap Reading.Record (settings-values s (later-tags (parts s)) (value-at s g) later-held valued))
 
--- ------------------------------------------------------------------ values that set what holds where they are absent
-
-module _ (o : Option Tag) (v : Octets) (e : v ≡ read [] (λ l. l) o) where
-  pub mode-value : word mode-words Mode.Relaxed v ≡ read Mode.Relaxed (word mode-words Mode.Relaxed) o
-  unfolding word mode-words octets same lower
-  mode-value = read-either Mode.Relaxed (word mode-words Mode.Relaxed) refl o v e
-
-  pub psd-value : word psd-words Psd.Unset v ≡ read Psd.Unset (word psd-words Psd.Unset) o
-  unfolding word psd-words octets same lower
-  psd-value = read-either Psd.Unset (word psd-words Psd.Unset) refl o v e
-
-  pub testing-value : word testing-words false v ≡ read false (word testing-words false) o
-  unfolding word testing-words octets same lower
-  testing-value = read-either false (word testing-words false) refl o v e
-
-  pub reports-value : has-valid-entry v ≡ read false has-valid-entry o
-  unfolding has-valid-entry valid-entry any split after trim-end trim
-  reports-value = read-either false has-valid-entry refl o v e
+    pub one-rua : bounds-at g 7 ≡ rua-bounds s
+    unfolding tags rua-of tag-name tag-names
+    one-rua = w .placed v 7 (omega arith) ∙ (rw (sym (w .judged) ∙ v) at rua-found)

@@ -1,6 +1,6 @@
 -- Laws of the tags of a text.
 use mathlib.Core.Bool.{Bool, true, false, _&&_, not, and-false}
-use mathlib.Core.List.{List, [], _∷_, _++_, append-assoc, reverse, reverse-append, reverse-reverse}
+use mathlib.Core.List.{List, [], _∷_, _++_, map, append-assoc, reverse, reverse-append, reverse-reverse}
 use mathlib.Core.Option.{Option, none as nothing, some as just, Option·none-ne-some}
 use mathlib.Core.Path.{_≡_, refl, ap, sym, _∙_, subst}
 use Prim.Native.Nat.{ℕ, suc, _+_, _-_, _≤_, _<_}
@@ -9,15 +9,12 @@ use lib.Dec.{eqb, leb}
 use lib.ListN.{length, drop, getD, drop-of-length-le, length-append, length-drop}
 use lib.Seq.{drop-drop}
 use borrow.Author.Tests.{eq-eqb, ne-eqb, not-true}
-use Rattle.octets.specs.Octets.{Octets, octets, if_then_else_, is-empty, all, same, between, is-letter, lower, split, front, after, is-blank, trim-end, trim}
+use Rattle.octets.specs.Octets.{Octets, octets, if_then_else_, is-empty, all, same, between, is-letter, lower-octet, lower, split, front, after, is-blank, trim-end, trim}
 use Rattle.octets.proofs.PartLaws.{all-front, front-fits, front-after, next-parts, split-first, split-next}
-use Rattle.octets.proofs.TextLaws.{same-true, and-left, and-right, true→T, T→true}
-use Rattle.policy.specs.declared.Bounds.{Bounds}
-use Rattle.policy_words.specs.code.Rows.{tag-names}
-use Rattle.policy.specs.Tags.{Tag, named, name-and-value, is-version, well-formed, tag-of, add-tag, tags-from, has-version, parts, first-tag}
-use Rattle.policy_words.specs.declared.TagName.{TagName}
-use Rattle.policy_words.specs.code.Rows.{tag-number, tag-word}
-use Rattle.policy_tags.specs.code.TagValues.{version, later-parts, tags-at, value-of, is-value, has-name, value-named, bounds-of}
+use Rattle.octets.proofs.TextLaws.{and-left, and-right, true→T, T→true}
+use Rattle.policy.specs.Tags.{Tag, named, name-and-value, is-version, well-formed, tag-of, add-tag, tags-from, has-version, parts}
+use Rattle.policy_tags.specs.code.TagValues.{version, later-parts, tags-at, value-of, is-value}
+use Rattle.policy_tags.specs.code.TagNames.{name-of, is-tag, tag-value, add-name, names-of}
 
 -- ------------------------------------------------------------------ the name and the value of a part
 
@@ -46,22 +43,6 @@ judge-part g h s = judge-named g h (front is-letter s) (after is-blank (after is
 pub version-part : (s : Octets) → is-version s ≡ (same (lower (front is-letter (trim-end s))) (octets "v") && same (value-of (trim-end s)) version)
 unfolding is-version value-of judge second octets same
 version-part s = judge-part (λ t. same (t .0) (octets "v") && same (t .1) (octets "DMARC1")) (λ n. and-false (same n (octets "v"))) (trim-end s)
-
--- a well-formed tag of a name
-pub name-part : (n : Octets) → is-empty n ≡ false → (s : Octets) → has-name n s ≡ (same (lower (front is-letter s)) n && is-value (value-of s))
-unfolding has-name value-of judge second well-formed is-value
-name-part n h s =
-    judge-part (λ t. same (t .0) n && well-formed t) fails s
-    ∙ go (lower (front is-letter s)) (value-of s) (same (lower (front is-letter s)) n) refl
-  where
-    fails : (m : Octets) → (same m n && (not (is-empty m) && false && all (between 32 126) [])) ≡ false
-    fails m = rw (and-false (not (is-empty m)), and-false (same m n))
-
-    go : (m v : Octets) (b : Bool) → same m n ≡ b → (same m n && (not (is-empty m) && not (is-empty v) && all (between 32 126) v)) ≡ (same m n && (not (is-empty v) && all (between 32 126) v))
-    go m v true e =
-        let named : is-empty m ≡ false = ap is-empty (same-true m n e) ∙ h in
-        rw (e, named)
-    go m v false e = rw e
 
 -- ------------------------------------------------------------------ the value
 
@@ -95,19 +76,7 @@ module _ (s u : Octets) (e : u ≡ after is-blank (after is-letter s)) where
   pub value-found : (length u ≡ 0 → ⊥) → getD u 0 0 ≡ 61 → after is-blank (drop 1 u) ≡ value-of s
   value-found p h = second-found (front is-letter s) u p h ∙ opened
 
--- ------------------------------------------------------------------ a well-formed tag of a name
-
--- no known name is empty
-pub some-name : (t : TagName) → is-empty (tag-word t) ≡ false
-unfolding tag-word tag-number tag-names octets
-some-name TagName.P = refl
-some-name TagName.Sp = refl
-some-name TagName.Np = refl
-some-name TagName.Adkim = refl
-some-name TagName.Aspf = refl
-some-name TagName.Psd = refl
-some-name TagName.T = refl
-some-name TagName.Rua = refl
+-- ------------------------------------------------------------------ a well-formed tag
 
 -- a value all of whose octets are 32 to 126
 pub value-empty : (v : Octets) → length v ≡ 0 → false ≡ is-value v
@@ -121,18 +90,35 @@ value-all [] h = absurd (h refl)
 value-all (x ∷ v) h = all-front (between 32 126) (x ∷ v)
 
 -- a part's value, by the tests of its name and its value
-module _ (n : Octets) (h : is-empty n ≡ false) (s : Octets) where
-  pub named-value : same (lower (front is-letter s)) n ≡ true → is-value (value-of s) ≡ true → value-of s ≡ value-named n s
-  unfolding value-named
-  named-value p q = rw (name-part n h s, p, q)
+module _ (s : Octets) where
+  no-letter : length (front is-letter s) ≡ 0 → is-tag s ≡ false
+  unfolding is-tag name-of well-formed lower
+  no-letter = go (front is-letter s)
+    where
+      go : (n : Octets) → length n ≡ 0 → (not (is-empty (map lower-octet n)) && not (is-empty (value-of s)) && all (between 32 126) (value-of s)) ≡ false
+      go [] h = refl
+      go (x ∷ n) h = absurd (omega arith)
 
-  pub named-ill : same (lower (front is-letter s)) n ≡ true → is-value (value-of s) ≡ false → [] ≡ value-named n s
-  unfolding value-named
-  named-ill p q = rw (name-part n h s, p, q)
+  some-letter : (length (front is-letter s) ≡ 0 → ⊥) → is-tag s ≡ is-value (value-of s)
+  unfolding is-tag name-of well-formed lower is-value
+  some-letter = go (front is-letter s)
+    where
+      go : (n : Octets) → (length n ≡ 0 → ⊥) → (not (is-empty (map lower-octet n)) && not (is-empty (value-of s)) && all (between 32 126) (value-of s)) ≡ (not (is-empty (value-of s)) && all (between 32 126) (value-of s))
+      go [] h = absurd (h refl)
+      go (x ∷ n) h = refl
 
-  pub named-other : same (lower (front is-letter s)) n ≡ false → [] ≡ value-named n s
-  unfolding value-named
-  named-other p = rw (name-part n h s, p)
+  pub tag-unnamed : length (front is-letter s) ≡ 0 → [] ≡ tag-value s
+  unfolding tag-value
+  tag-unnamed h = rw (no-letter h)
+
+  module _ (h : length (front is-letter s) ≡ 0 → ⊥) where
+    pub tag-valued : is-value (value-of s) ≡ true → value-of s ≡ tag-value s
+    unfolding tag-value
+    tag-valued q = rw (some-letter h, q)
+
+    pub tag-ill : is-value (value-of s) ≡ false → [] ≡ tag-value s
+    unfolding tag-value
+    tag-ill q = rw (some-letter h, q)
 
 -- ------------------------------------------------------------------ where a value stands
 
@@ -193,18 +179,18 @@ module _ (s : Octets) (at : ℕ) (h : at < length s) (p : Octets) (e : p ≡ fro
   kept-fits k d = omega (arith, part-fits, ap length d, trim-fits p)
 
 -- a value is no longer than its part
-pub value-fits : (n p : Octets) → length (value-named n (trim p)) ≤ length (trim-end p)
-unfolding value-named has-name value-of End
-value-fits n p = go (name-and-value (trim p)) refl
+pub value-fits : (p : Octets) → length (tag-value (trim p)) ≤ length (trim-end p)
+unfolding tag-value value-of second End
+value-fits p = elim (is-tag (trim p)) as (λ b. length {A = ℕ} (if b then value-of (trim p) else []) ≤ length (trim-end p)) [
+  | true ↦ go (name-and-value (trim p)) refl
+  | false ↦ omega arith
+]
   where
-    go : (o : Option (Octets × Octets)) → name-and-value (trim p) ≡ o → length {A = ℕ} (if elim o as (λ _. Bool) [ nothing ↦ false | just t ↦ same (t .0) n && well-formed t ] then elim o as (λ _. Octets) [ nothing ↦ [] | just t ↦ t .1 ] else []) ≤ length (trim-end p)
+    go : (o : Option (Octets × Octets)) → name-and-value (trim p) ≡ o → length {A = ℕ} (second o) ≤ length (trim-end p)
     go nothing e = omega arith
-    go (just t) e = elim (same (t .0) n && well-formed t) as (λ b. length {A = ℕ} (if b then t .1 else []) ≤ length (trim-end p)) [
-      | true ↦ (let w = end-part p t e in omega (arith, ap length (w .1), length-append (w .0) (t .1)))
-      | false ↦ omega arith
-    ]
+    go (just t) e = let w = end-part p t e in omega (arith, ap length (w .1), length-append (w .0) (t .1))
 
--- ------------------------------------------------------------------ the first tag of a name
+-- ------------------------------------------------------------------ the tags and the names of the parts in turn
 
 -- a well-formed tag has a value
 pub has-value : (t : Octets × Octets) → well-formed t ≡ true → is-empty (t .1) ≡ false
@@ -213,37 +199,68 @@ has-value t e =
     not-true (is-empty (t .1))
     (T→true _ (and-right (not (is-empty (t .0))) (not (is-empty (t .1))) (and-left (not (is-empty (t .0)) && not (is-empty (t .1))) _ (true→T e))))
 
--- where the value of a part stands
-abbrev pub stands-at : ℕ → Octets → Octets → Bounds
-stands-at at kept v = record { begin = at + (length kept - length v); length = length v }
+unvalued : (n : Octets) → well-formed (n, []) ≡ false
+unfolding well-formed
+unvalued n = rw (and-false (not (is-empty n)))
 
-some-kept : (v : Octets) (a b : Bounds) → 0 < length v → (if is-empty v then a else b) ≡ b
-some-kept [] a b h = absurd (omega arith)
-some-kept (x ∷ v) a b h = refl
+-- the tag of a part that is one
+unfoldable pub made-tag : ℕ → Octets → Tag
+made-tag at p = record { name = name-of (trim p); value = value-of (trim p); place = at + (length (trim-end p) - length (value-of (trim p))) }
 
-none-kept : (v : Octets) (a b : Bounds) → length v ≤ 0 → (if is-empty v then a else b) ≡ a
-none-kept [] a b h = refl
-none-kept (x ∷ v) a b h = absurd (omega arith)
+module _ (at : ℕ) (p : Octets) where
+  given : Octets → Octets → Option Tag
+  given m v = if well-formed (m, v) then just (record { name = m; value = v; place = at + (length (trim-end p) - length v) }) else nothing
 
-module _ (n : Octets) (at : ℕ) (p : Octets) (ts : List Tag) where
-  -- one part more
-  tag-here : bounds-of (first-tag n (add-tag (tag-of at p (name-and-value (trim p))) ts))
-      ≡ (if is-empty (value-named n (trim p)) then bounds-of (first-tag n ts) else stands-at at (trim-end p) (value-named n (trim p)))
-  unfolding tag-of add-tag first-tag bounds-of value-named has-name value-of
-  tag-here = go (name-and-value (trim p))
+  tag-given : (n u : Octets) → tag-of at p (named n u) ≡ given (lower n) (second (named n u))
+  unfolding tag-of named second given
+  tag-given n [] = rw (unvalued (lower n))
+  tag-given n (x ∷ xs) =
+      elim (eqb x 61) as (λ b. tag-of at p (if b then just (lower n, after is-blank xs) else nothing) ≡ given (lower n) (second (if b then just (lower n, after is-blank xs) else nothing))) [
+        | true ↦ refl
+        | false ↦ rw (unvalued (lower n))
+      ]
+
+  pub tag-part : tag-of at p (name-and-value (trim p)) ≡ (if is-tag (trim p) then just (made-tag at p) else nothing)
+  unfolding is-tag made-tag name-of value-of name-and-value second given
+  tag-part = tag-given (front is-letter (trim p)) (after is-blank (after is-letter (trim p)))
+
+pub names-tags : (at : ℕ) (ps : List Octets) → map (λ t. t .name) (tags-from at ps) ≡ names-of ps
+unfolding tags-from names-of add-tag add-name made-tag
+names-tags at [] = refl
+names-tags at (p ∷ ps) = rw (tag-part at p) (go (is-tag (trim p)) refl (names-tags (at + suc (length p)) ps))
+  where
+    rest : List Tag
+    rest = tags-from (at + suc (length p)) ps
+
+    go : (b : Bool) → is-tag (trim p) ≡ b → map (λ t. t .name) rest ≡ names-of ps → map (λ t. t .name) (add-tag (if is-tag (trim p) then just (made-tag at p) else nothing) rest) ≡ add-name (trim p) (names-of ps)
+    go true e ih = rw e (ap (λ (ns : List Octets). name-of (trim p) ∷ ns) ih)
+    go false e ih = rw e ih
+
+pub some-length : (v : Octets) → is-empty v ≡ false → (length v ≡ 0 → ⊥)
+some-length [] e h = true→T {b = false} (cc e)
+some-length (x ∷ v) e h = omega arith
+
+-- a part is a well-formed tag where there is a value
+module _ (s v : Octets) (e : v ≡ tag-value s) where
+  pub tag-some : (length v ≡ 0 → ⊥) → is-tag s ≡ true
+  unfolding tag-value
+  tag-some h = go (is-tag s) refl
     where
-      value : Option (Octets × Octets) → Octets
-      value o = if elim o as (λ _. Bool) [ nothing ↦ false | just t ↦ same (t .0) n && well-formed t ] then elim o as (λ _. Octets) [ nothing ↦ [] | just t ↦ t .1 ] else []
+      go : (b : Bool) → is-tag s ≡ b → is-tag s ≡ true
+      go true d = d
+      go false d = absurd (h (ap length (rw d at e)))
 
-      by-tests : (t : Octets × Octets) (w : Bool) → well-formed t ≡ w → (b : Bool) → same (t .0) n ≡ b
-          → bounds-of (first-tag n (add-tag (tag-of at p (just t)) ts)) ≡ (if is-empty (value (just t)) then bounds-of (first-tag n ts) else stands-at at (trim-end p) (value (just t)))
-      by-tests t false e b d = rw (e, and-false (same (t .0) n))
-      by-tests t true e true d = rw (e, d, has-value t e)
-      by-tests t true e false d = rw (e, d)
+  pub tag-none : length v ≡ 0 → is-tag s ≡ false
+  unfolding tag-value is-tag
+  tag-none h = go (is-tag s) refl
+    where
+      go : (b : Bool) → is-tag s ≡ b → is-tag s ≡ false
+      go true d = absurd (some-length (value-of s) (has-value (name-of s, value-of s) d) (sym (ap length (rw d at e)) ∙ h))
+      go false d = d
 
-      go : (o : Option (Octets × Octets)) → bounds-of (first-tag n (add-tag (tag-of at p o) ts)) ≡ (if is-empty (value o) then bounds-of (first-tag n ts) else stands-at at (trim-end p) (value o))
-      go nothing = refl
-      go (just t) = by-tests t (well-formed t) refl (same (t .0) n) refl
+  pub value-some : (length v ≡ 0 → ⊥) → v ≡ value-of s
+  unfolding tag-value
+  value-some h = rw (tag-some h) at e
 
 -- no part, or an empty one, has a tag
 none-named : (at : ℕ) → tags-from at [] ≡ tags-from at ([] ∷ [])
@@ -262,40 +279,19 @@ tags-next at s =
     ∙ ap (λ (k : ℕ). tags-from (at + suc size) (split 59 (drop k s))) same-place'
     ∙ ap (λ (k : ℕ). tags-from k (split 59 (drop (at + size + 1) s))) same-place
 
-module _ (n : Octets) (at : ℕ) (s : Octets) where
-  first : Octets
-  first = front (λ x. not (eqb x 59)) (drop at s)
+-- no part, or an empty one, has a name
+pub no-name : names-of [] ≡ names-of ([] ∷ [])
+unfolding names-of add-name is-tag name-of value-of name-and-value named well-formed trim trim-end after front lower
+no-name = refl
 
-  one-part : bounds-of (first-tag n (tags-at at s))
-      ≡ (if is-empty (value-named n (trim first)) then bounds-of (first-tag n (tags-at (at + length first + 1) s)) else stands-at at (trim-end first) (value-named n (trim first)))
-  unfolding tags-at tags-from first
-  one-part =
-      ap (λ (ps : List Octets). bounds-of (first-tag n (tags-from at ps))) (split-first 59 (drop at s))
-      ∙ tag-here n at first (tags-from (at + suc (length first)) (next-parts 59 (after (λ x. not (eqb x 59)) (drop at s))))
-      ∙ ap (λ (ts : List Tag). if is-empty (value-named n (trim first)) then bounds-of (first-tag n ts) else stands-at at (trim-end first) (value-named n (trim first))) (tags-next at s)
+module _ (s : Octets) (at : ℕ) (p : Octets) (e : p ≡ front (λ x. not (eqb x 59)) (drop at s)) where
+  pub tags-turn : tags-at at s ≡ add-tag (tag-of at p (name-and-value (trim p))) (tags-at (at + length p + 1) s)
+  unfolding tags-at tags-from
+  tags-turn = rw (split-first 59 (drop at s), e) (ap (add-tag (tag-of at (front (λ x. not (eqb x 59)) (drop at s)) (name-and-value (trim (front (λ x. not (eqb x 59)) (drop at s)))))) (tags-next at s))
 
-  module _ (p : Octets) (e : p ≡ front (λ x. not (eqb x 59)) (drop at s)) (v : Octets) (q : v ≡ value-named n (trim p)) where
-    of-first : v ≡ value-named n (trim first)
-    unfolding first
-    of-first = q ∙ ap (λ (l : Octets). value-named n (trim l)) e
-
-    pub found : 0 < length v → stands-at at (trim-end p) v ≡ bounds-of (first-tag n (tags-at at s))
-    unfolding first
-    found h =
-        ap (λ (l : Octets). stands-at at (trim-end l) v) e
-        ∙ ap (stands-at at (trim-end first)) of-first
-        ∙ sym (one-part ∙ some-kept (value-named n (trim first)) _ _ (subst (λ (l : Octets). 0 < length l) of-first h))
-
-    pub passed : length v ≤ 0 → bounds-of (first-tag n (tags-at at s)) ≡ bounds-of (first-tag n (tags-at (at + length p + 1) s))
-    unfolding first
-    passed h =
-        one-part
-        ∙ none-kept (value-named n (trim first)) _ _ (subst (λ (l : Octets). length l ≤ 0) of-first h)
-        ∙ ap (λ (l : Octets). bounds-of (first-tag n (tags-at (at + length l + 1) s))) (sym e)
-
-pub all-passed : (n : Octets) (at : ℕ) (s : Octets) → length s ≤ at → bounds-of nothing ≡ bounds-of (first-tag n (tags-at at s))
-unfolding tags-at split first-tag tags-from
-all-passed n at s h = rw (drop-of-length-le s {i = at} h, ← none-named at)
+pub tags-past : (at : ℕ) (s : Octets) → length s ≤ at → tags-at at s ≡ []
+unfolding tags-at split tags-from
+tags-past at s h = rw (drop-of-length-le s {i = at} h, ← none-named at)
 
 -- ------------------------------------------------------------------ the first part
 

@@ -1,2 +1,3 @@
 -- Definitions that only code needs.
 pub mod TagValues
+pub mod TagNames

@@ -1,11 +1,9 @@
 // The tags of a policy text.
 ghost use mathlib.Core.Path.{_≡_};
 ghost use Rattle.octets.specs.Octets.{same};
-ghost use Rattle.policy.specs.Tags.{is-version, first-tag};
-ghost use Rattle.policy_words.specs.code.Rows.{tag-word};
-ghost use Rattle.policy_tags.specs.code.TagValues.{version, later-parts, tags-at, value-of, is-value, value-named, bounds-of};
-use policy::Bounds;
-use policy_words::TagName;
+ghost use Rattle.policy.specs.Tags.{is-version};
+ghost use Rattle.policy_tags.specs.code.TagValues.{version, later-parts, value-of, is-value};
+ghost use Rattle.policy_tags.specs.code.TagNames.{tag-value};
 use text_class::Class;
 
 // Where the parts after the first begin; 0 where the text is no policy record.
@@ -37,34 +35,11 @@ fn is_dmarc1(value: &[u8]) -> bool
     text_parts::same_octets(value, b"DMARC1")
 }
 
-// Where the value of the first tag of a name stands, from a place of the text on; 0 and 0 where there is none.
-pub fn find_tag(text: &[u8], from: usize, tag: TagName) -> Bounds
-    ensures { λ r. ⌜ r ≡ bounds-of (first-tag (tag-word tag) (tags-at from (now (text .entry)))) ⌝ }
+// The value of a part, trimmed, that is a well-formed tag; empty where it is none.
+pub fn tag_value(part: &[u8]) -> &[u8]
+    ensures { λ r. ⌜ now r ≡ tag-value (now (part .entry)) ⌝ }
 {
-    let mut at = from;
-    while at < text.len() {
-        let part = text_front::front(text_parts::skip(text, at), Class::Not(b';'));
-        let kept = text_front::trim_end(part);
-        let value = tag_value(text_front::after(kept, Class::Blank), tag);
-        if 0 < value.len() {
-            return Bounds {
-                begin: at + (kept.len() - value.len()),
-                length: value.len(),
-            };
-        }
-        at = at + part.len() + 1;
-    }
-    Bounds {
-        begin: 0,
-        length: 0,
-    }
-}
-
-// The value of a part, trimmed, that is a well-formed tag of a name; empty where it is none.
-fn tag_value(part: &[u8], tag: TagName) -> &[u8]
-    ensures { λ r. ⌜ now r ≡ value-named (tag-word tag) (now (part .entry)) ⌝ }
-{
-    if !policy_words::is_tag_name(text_front::front(part, Class::Letter), tag) {
+    if text_front::front_length(part, Class::Letter) == 0 {
         return &part[0..0];
     }
     let value = value_of(part);

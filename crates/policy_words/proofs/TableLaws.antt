@@ -10,13 +10,13 @@ use native.Mathlib.Omega.{arith}
 use lib.Dec.{T, eqb, eqb→eq}
 use lib.ListN.{length, drop, getD, length-map}
 use lib.Seq.{drop-cons, drop-length}
+use borrow.Author.Tests.{eq-eqb, ne-eqb}
 use Rattle.octets.specs.Octets.{Octets, octets, same, lower, same-text}
-use Rattle.octets.proofs.TextLaws.{and-left, and-right, same→eq}
+use Rattle.octets.proofs.TextLaws.{and-left, and-right, true→T, same-true}
 use Rattle.policy.specs.declared.Policy.{Policy}
 use Rattle.policy.specs.Records.{word}
 use Rattle.force.specs.InForce.{step-down}
-use Rattle.policy_words.specs.declared.TagName.{TagName}
-use Rattle.policy_words.specs.code.Rows.{tag-names, policy-number, policy-at, tag-number, tag-word, row-word, position, row-of}
+use Rattle.policy_words.specs.code.Rows.{tag-names, tag-name, policy-number, policy-at, tag-number, row-word, position, row-of}
 
 -- ------------------------------------------------------------------ any table
 
@@ -60,27 +60,6 @@ steps table t d p h =
     ∙ back (step-down (policy-at (policy-number p)))
     ∙ ap step-down (back p)
 
--- ------------------------------------------------------------------ tag names by their number
-
-pub tag-fits : (t : TagName) → tag-number t < 8
-unfolding tag-number
-tag-fits TagName.P = omega arith
-tag-fits TagName.Sp = omega arith
-tag-fits TagName.Np = omega arith
-tag-fits TagName.Adkim = omega arith
-tag-fits TagName.Aspf = omega arith
-tag-fits TagName.Psd = omega arith
-tag-fits TagName.T = omega arith
-tag-fits TagName.Rua = omega arith
-
--- a row's word is the tag name of its number
-abbrev pub is-name : ℕ → Octets → Bool
-is-name k row = same (lower (row-word row)) (octets (getD tag-names k ""))
-
-pub names : (table : List Octets) → T (every is-name 0 table) → (t : TagName) → tag-number t < length table → (d s : Octets) → same-text s (row-word (getD table (tag-number t) d)) ≡ same (lower s) (tag-word t)
-unfolding same-text tag-word
-names table e t h d s = ap (same (lower s)) (same→eq _ _ (at is-name d table e (tag-number t) h))
-
 -- ------------------------------------------------------------------ the place of a text in a list
 
 module _ (s w : Octets) (ws : List Octets) where
@@ -100,6 +79,32 @@ position-fits s (w ∷ ws) = go (position-fits s ws) (same s w) refl
     go : position s ws ≤ length ws → (b : Bool) → same s w ≡ b → position s (w ∷ ws) ≤ suc (length ws)
     go ih true e = rw (position-here s w ws e) (omega arith)
     go ih false e = rw (position-next s w ws e) (omega arith)
+
+position-found : (s : Octets) (ws : List Octets) → position s ws < length ws → same s (getD ws (position s ws) []) ≡ true
+position-found s [] h = absurd (not-suc-le-zero h)
+position-found s (w ∷ ws) h = go (position-found s ws) (same s w) refl h
+  where
+    go : (position s ws < length ws → same s (getD ws (position s ws) []) ≡ true) → (b : Bool) → same s w ≡ b → position s (w ∷ ws) < suc (length ws) → same s (getD (w ∷ ws) (position s (w ∷ ws)) []) ≡ true
+    go ih true e h = rw (position-here s w ws e) e
+    go ih false e h = rw (position-next s w ws e) (ih (omega (arith, position-next s w ws e)))
+
+-- ------------------------------------------------------------------ the numbers of the tag names
+
+number-of-name : (k : ℕ) → k < 14 → tag-number (tag-name k) ≡ k
+unfolding tag-number tag-name tag-names position octets same
+number-of-name k h = eqb→eq _ _ (at (λ i s. eqb (tag-number s) i) [] (map octets tag-names) tt k h)
+
+-- a name is that of its number
+name-of-number : (n : Octets) (k : ℕ) → k < 14 → tag-number n ≡ k → same n (tag-name k) ≡ true
+unfolding tag-number tag-name tag-names
+name-of-number n k h q = ap (λ (i : ℕ). same n (getD (map octets tag-names) i [])) (sym q) ∙ position-found n (map octets tag-names) (omega (arith, q))
+
+pub named-by-number : (n : Octets) (k : ℕ) → k < 14 → same n (tag-name k) ≡ eqb (tag-number n) k
+named-by-number n k h = go (same n (tag-name k)) refl
+  where
+    go : (b : Bool) → same n (tag-name k) ≡ b → same n (tag-name k) ≡ eqb (tag-number n) k
+    go true e = e ∙ sym (eq-eqb (tag-number n) k (ap tag-number (same-true n (tag-name k) e) ∙ number-of-name k h))
+    go false e = e ∙ sym (ne-eqb (tag-number n) k (λ q. true→T {b = false} (sym e ∙ name-of-number n k h q)))
 
 -- ------------------------------------------------------------------ tables of words
 

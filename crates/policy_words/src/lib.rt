@@ -1,32 +1,20 @@
 // The small tables: the step down of a policy, the known tag names, the words of a value.
 ghost use mathlib.Core.Bool.{false};
 ghost use mathlib.Core.Path.{_≡_};
-ghost use Rattle.octets.specs.Octets.{same, lower, same-text};
+ghost use Rattle.octets.specs.Octets.{lower, same-text};
 ghost use Rattle.policy.specs.Records.{word, policy-words, mode-words, psd-words, testing-words};
 ghost use Rattle.force.specs.InForce.{step-down};
-ghost use Rattle.policy_words.specs.code.Rows.{policy-number, tag-number, tag-word, row-word, row-of};
+ghost use Rattle.policy_words.specs.code.Rows.{policy-number, tag-number, row-word, row-of};
 use policy::Mode;
 use policy::Policy;
 use policy::Psd;
 use policy::Setting;
 
-// The known tag names.
-pub enum TagName {
-    P,
-    Sp,
-    Np,
-    Adkim,
-    Aspf,
-    Psd,
-    T,
-    Rua,
-}
-
 // By the policy's number.
 const STEP_DOWN: [Policy; 3] = [Policy::None, Policy::None, Policy::Quarantine];
 
-// A row is the place at which its word ends, the word in lower case, and spaces.
-const TAG_NAMES: [[u8; 11]; 8] = [
+// The known tag names, and the others of RFC 9989's registry. A row is the place at which its word ends, the word in lower case, and spaces.
+const TAG_NAMES: [[u8; 11]; 14] = [
     *b"\x02p         ",
     *b"\x03sp        ",
     *b"\x03np        ",
@@ -35,6 +23,12 @@ const TAG_NAMES: [[u8; 11]; 8] = [
     *b"\x04psd       ",
     *b"\x02t         ",
     *b"\x04rua       ",
+    *b"\x02v         ",
+    *b"\x04ruf       ",
+    *b"\x03fo        ",
+    *b"\x04pct       ",
+    *b"\x03rf        ",
+    *b"\x03ri        ",
 ];
 
 // What a value's words say stands in the table after theirs, and last what any other value says.
@@ -78,29 +72,12 @@ fn policy_number(p: Policy) -> usize
     }
 }
 
-// Whether a text is a tag's name, in either case.
-pub fn is_tag_name(s: &[u8], tag: TagName) -> bool
-    ensures { λ r. ⌜ r ≡ same (lower (now (s .entry))) (tag-word tag) ⌝ }
+// The number of a tag name, in either case; 14 where it is not known.
+pub fn tag_number(name: &[u8]) -> usize
+    ensures { λ r. ⌜ r ≡ tag-number (lower (now (name .entry))) ⌝ }
 {
-    let number = tag_number(tag);
-    let row = TAG_NAMES[number];
-    is_row(s, row)
-}
-
-// The tag name's row.
-fn tag_number(tag: TagName) -> usize
-    ensures { λ r. ⌜ r ≡ tag-number tag ⌝ }
-{
-    match tag {
-        TagName::P => 0,
-        TagName::Sp => 1,
-        TagName::Np => 2,
-        TagName::Adkim => 3,
-        TagName::Aspf => 4,
-        TagName::Psd => 5,
-        TagName::T => 6,
-        TagName::Rua => 7,
-    }
+    let names = TAG_NAMES;
+    find_word(name, &names)
 }
 
 // Whether a text is the word of a row, in either case.

@@ -1,6 +1,6 @@
 -- Daily rows of one policy domain (document 02, Ask 1): what clearing a list and entering a verdict give.
 use mathlib.Core.List.{List, [], _∷_, _++_, map}
-use mathlib.Core.Bool.{Bool, true, false, _&&_, not, Bool·beq}
+use mathlib.Core.Bool.{Bool, false, _&&_, not, Bool·beq}
 use mathlib.Core.Option.{Option, none as nothing, some as just}
 use Prim.Native.Nat.{ℕ, _+_}
 use lib.Dec.{eqb, leb}

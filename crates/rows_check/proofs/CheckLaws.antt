@@ -7,8 +7,8 @@ use Prim.Native.Nat.{ℕ, zero, suc, _-_, _≤_, _<_}
 use native.Mathlib.Omega.{arith}
 use lib.Dec.{eqb}
 use lib.ListN.{length, replicate}
-use borrow.Author.Tests.{eq-eqb, ne-eqb}
-use Rattle.octets.specs.Octets.{Octets, if_then_else_, any, same-text, lower, part-of}
+use borrow.Author.Tests.{ne-eqb}
+use Rattle.octets.specs.Octets.{Octets, any, same-text, lower, part-of}
 use Rattle.octets.specs.Refusing.{refusal}
 use Rattle.octets.specs.Lent.{left}
 use Rattle.domain.specs.Domain.{Domain, is-domain}

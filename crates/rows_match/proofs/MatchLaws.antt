@@ -4,7 +4,7 @@ use mathlib.Core.Bool.{true, false, Bool·beq}
 use Prim.Native.Nat.{ℕ, _+_, _<_, _≤_}
 use lib.Dec.{leb}
 use borrow.Author.Tests.{lt-ltb, le-ltb, eq-eqb, ne-eqb}
-use Rattle.octets.specs.Octets.{if_then_else_, same}
+use Rattle.octets.specs.Octets.{same}
 use Rattle.rows.specs.declared.Seen.{Seen}
 use Rattle.rows.specs.declared.Row.{Row}
 use Rattle.rows.specs.Rows.{is-free, same-seen, is-match, with-count}

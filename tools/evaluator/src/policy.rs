@@ -1,4 +1,6 @@
-//! Reading a policy text (document 01, "Reading a policy text").
+//! Reading a policy text (document 01, "Reading a policy text"; document 02, Ask 2).
+
+use std::collections::HashSet;
 
 #[derive(Clone, Copy, Debug, PartialEq, Eq)]
 pub enum Policy {
@@ -56,7 +58,7 @@ pub struct Settings {
     pub rua_valid: bool,
 }
 
-/// A later part of the right form, with its value's place in the text.
+/// A well-formed part, with its value's place in the text.
 struct Tag<'a> {
     name: &'a [u8],
     value: &'a [u8],
@@ -66,7 +68,7 @@ struct Tag<'a> {
 /// A policy text's settings, or nothing if "it is no policy record".
 pub fn read(text: &[u8]) -> Option<Settings> {
     let tags = tags(text)?;
-    let value = |name: &[u8]| first(&tags, name).map(|tag| tag.value);
+    let value = |name: &[u8]| named(&tags, name).map(|tag| tag.value);
     Some(Settings {
         p: request(value(b"p")),
         sp: request(value(b"sp")),
@@ -83,13 +85,19 @@ pub fn read(text: &[u8]) -> Option<Settings> {
 /// trimmed; empty if absent" (and for a text that is no policy record).
 pub fn rua_part(text: &[u8]) -> (usize, usize) {
     let tags = tags(text).unwrap_or_default();
-    first(&tags, b"rua").map_or((0, 0), |tag| (tag.place, tag.value.len()))
+    named(&tags, b"rua").map_or((0, 0), |tag| (tag.place, tag.value.len()))
 }
 
 /// The rua text itself.
 pub fn rua_text(text: &[u8]) -> &[u8] {
     let (offset, length) = rua_part(text);
     text.get(offset..offset + length).unwrap_or_default()
+}
+
+/// The first name, as it is spelled there, that a well-formed part has again, if
+/// the text would be a policy record but for that.
+pub fn repeated_name(text: &[u8]) -> Option<&[u8]> {
+    repeated(&well_formed(text)?)
 }
 
 /// The valid entries of a rua text: "a comma list; an entry, trimmed, ..."
@@ -101,19 +109,32 @@ pub fn valid_entries(rua: &[u8]) -> Vec<&[u8]> {
         .collect()
 }
 
-/// The tags of a policy record in order, or nothing if it is none.
+/// The tags of a policy record, or nothing if it is none: "a text in which any
+/// tag name occurs twice among its well-formed parts ... is no policy record".
 fn tags(text: &[u8]) -> Option<Vec<Tag<'_>>> {
+    well_formed(text).filter(|tags| repeated(tags).is_none())
+}
+
+/// The well-formed parts in order, "the first `v` with them"; nothing if the
+/// first part is not as it must be.
+fn well_formed(text: &[u8]) -> Option<Vec<Tag<'_>>> {
     let mut tags = Vec::new();
     let mut place = 0;
     for (number, part) in text.split(|octet| *octet == b';').enumerate() {
-        if number > 0 {
-            tags.extend(tag(part, place));
-        } else if !is_version(part) {
+        if number == 0 && !is_version(part) {
             return None;
         }
+        tags.extend(tag(part, place));
         place += part.len() + 1;
     }
     Some(tags)
+}
+
+/// The first name that comes again, "known or not, in either case".
+fn repeated<'a>(tags: &[Tag<'a>]) -> Option<&'a [u8]> {
+    let mut seen = HashSet::new();
+    let mut names = tags.iter().map(|tag| tag.name);
+    names.find(|name| !seen.insert(name.to_ascii_lowercase()))
 }
 
 /// "`v`, blanks, `=`, blanks, `DMARC1`, blanks, with no blank before `v`"
@@ -127,8 +148,8 @@ fn is_version(part: &[u8]) -> bool {
     trimmed(rest).1 == b"DMARC1"
 }
 
-/// "Each later part, blanks trimmed: letters, blanks, `=`, blanks, value of one
-/// or more octets 32 to 126. Other parts ... are ignored."
+/// "blanks trimmed: letters, blanks, `=`, blanks, value of one or more octets 32
+/// to 126. Other parts ... are ignored." The first part is of this form too.
 fn tag(part: &[u8], part_place: usize) -> Option<Tag<'_>> {
     let (leading, body) = trimmed(part);
     let equals = body.iter().position(|octet| *octet == b'=')?;
@@ -144,8 +165,8 @@ fn tag(part: &[u8], part_place: usize) -> Option<Tag<'_>> {
     })
 }
 
-/// "If a name occurs twice, the first counts", names "in either case".
-fn first<'t, 'a>(tags: &'t [Tag<'a>], name: &[u8]) -> Option<&'t Tag<'a>> {
+/// The tag of a name, "in either case".
+fn named<'t, 'a>(tags: &'t [Tag<'a>], name: &[u8]) -> Option<&'t Tag<'a>> {
     tags.iter().find(|tag| tag.name.eq_ignore_ascii_case(name))
 }
 

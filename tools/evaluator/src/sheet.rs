@@ -155,6 +155,12 @@ impl<'a> Sheet<'a> {
         txt::acceptable(answer).then_some(answer)
     }
 
+    /// The texts under an asked name that have a tag twice, and would be policy
+    /// records without that.
+    pub fn repeating_texts(&self, name: &[u8]) -> Vec<Vec<u8>> {
+        self.answer(name).map_or(Vec::new(), txt::repeating_texts)
+    }
+
     /// The text of the policy record at a domain, if it has one.
     pub fn record_text(&self, domain: &Domain) -> Option<Vec<u8>> {
         let answer = self.answer(&domain.asked_name()?)?;

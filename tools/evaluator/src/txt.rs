@@ -118,10 +118,21 @@ pub fn reply(answer: Answer) -> Reply {
     }
 }
 
+/// The texts of an answer of status records.
+fn given_texts(answer: Answer) -> Option<Vec<Vec<u8>>> {
+    texts(answer.bytes).filter(|_| answer.status == Status::Records)
+}
+
 /// The text of the record at a name, if it has one.
 pub fn record_text(answer: Answer) -> Option<Vec<u8>> {
-    let texts = texts(answer.bytes).filter(|_| answer.status == Status::Records);
-    single(texts?).map(|(text, _)| text)
+    single(given_texts(answer)?).map(|(text, _)| text)
+}
+
+/// The texts at a name that would be policy records if they had not a tag twice.
+pub fn repeating_texts(answer: Answer) -> Vec<Vec<u8>> {
+    let mut texts = given_texts(answer).unwrap_or_default();
+    texts.retain(|text| policy::repeated_name(text).is_some());
+    texts
 }
 
 /// "texts that are no policy record are dropped. If two or more remain, all are

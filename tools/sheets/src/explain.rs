@@ -5,12 +5,12 @@ use crate::description::quoted;
 use evaluator::domain::Domain;
 use evaluator::grounds::{AppliedBy, Choice, Discovery, Grounds};
 use evaluator::grounds::{PolicySource, Reason, ResultReason};
-use evaluator::policy::Policy;
+use evaluator::policy::{repeated_name, Policy};
 use evaluator::refusal::Refusal;
 use evaluator::sheet::{self, Reasoned};
 use evaluator::start::{Existence, Identifier, Kind, Message, Outcome};
 use evaluator::verdict::{AppliedPolicy, Disposition, DmarcResult, Verdict};
-use evaluator::walk::{Found, Walk};
+use evaluator::walk::{AskedName, Found, Walk};
 
 /// The line above an explanation.
 const HEAD: &str = "-- why";
@@ -78,6 +78,7 @@ fn verdict_lines(octets: &[u8], reasoned: &Reasoned) -> Vec<String> {
     let (message, grounds) = (&reasoned.message, &reasoned.grounds);
     let mut lines = vec![author_line(message)];
     lines.extend(record_lines(octets, grounds));
+    lines.extend(repeating_lines(octets, &reasoned.names));
     lines.push(organizational_line(grounds));
     for (index, identifier) in message.identifiers.iter().enumerate() {
         lines.extend(identifier_lines(index, identifier, grounds));
@@ -88,8 +89,13 @@ fn verdict_lines(octets: &[u8], reasoned: &Reasoned) -> Vec<String> {
     lines
 }
 
+/// Octets that are all in ASCII, as they stand.
+fn plain(octets: &[u8]) -> String {
+    String::from_utf8_lossy(octets).into_owned()
+}
+
 fn shown(domain: &Domain) -> String {
-    String::from_utf8_lossy(domain.octets()).into_owned()
+    plain(domain.octets())
 }
 
 fn author_line(message: &Message) -> String {
@@ -143,6 +149,27 @@ fn applied_lines(octets: &[u8], grounds: &Grounds, found: &Found, by: AppliedBy)
     } else if grounds.read_as_none {
         let read = "its policies read as none, since rua has a valid entry";
         lines.push(format!("  not usable; {read}"));
+    }
+    lines
+}
+
+/// The texts under the asked names that are no policy record for a tag that is
+/// written twice.
+fn repeating_lines(octets: &[u8], names: &[AskedName]) -> Vec<String> {
+    let Ok(sheet) = sheet::read(octets) else {
+        return Vec::new();
+    };
+    let mut lines = Vec::new();
+    for asked in names {
+        let domain = asked.name.strip_prefix(b"_dmarc.").unwrap_or_default();
+        for text in sheet.repeating_texts(&asked.name) {
+            let tag = repeated_name(&text).unwrap_or_default();
+            let (domain, tag) = (plain(domain), plain(&tag.to_ascii_lowercase()));
+            lines.push(format!(
+                "a text at {domain}: tag {tag} written twice, so no policy record"
+            ));
+            lines.push(format!("  text: {}", quoted(&text)));
+        }
     }
     lines
 }

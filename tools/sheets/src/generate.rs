@@ -5,6 +5,7 @@ mod draft;
 mod fill;
 mod hostile;
 mod message;
+mod repeats;
 mod texts;
 
 use crate::random::Random;

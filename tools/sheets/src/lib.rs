@@ -11,5 +11,6 @@ pub mod explain;
 pub mod generate;
 pub mod programs;
 pub mod random;
+mod tag_lists;
 pub mod tally;
 pub mod written;

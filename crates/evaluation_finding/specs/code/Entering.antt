@@ -1,6 +1,5 @@
 -- What is entered in a day's rows of an evaluation that stands at its verdict, and how the code's answer is read.
 use mathlib.Core.Path.{_≡_}
-use mathlib.Core.Bool.{true, false}
 use Prim.Native.Nat.{_-_}
 use lib.ListN.{length, drop}
 use Rattle.octets.specs.Octets.{if_then_else_}

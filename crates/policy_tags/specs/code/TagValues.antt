@@ -1,13 +1,12 @@
 -- The tags of a text and their values, as code finds them.
 use mathlib.Core.List.{List, [], _∷_}
-use mathlib.Core.Bool.{Bool, false, _&&_, not}
-use mathlib.Core.Option.{Option, none as nothing, some as just}
+use mathlib.Core.Bool.{Bool, _&&_, not}
+use mathlib.Core.Option.{none as nothing, some as just}
 use Prim.Native.Nat.{ℕ, _+_}
 use lib.Dec.{eqb}
 use lib.ListN.{length, drop}
-use Rattle.octets.specs.Octets.{Octets, if_then_else_, is-empty, all, same, between, split, front}
-use Rattle.policy.specs.declared.Bounds.{Bounds}
-use Rattle.policy.specs.Tags.{Tag, name-and-value, well-formed, tags-from, has-version, parts}
+use Rattle.octets.specs.Octets.{Octets, if_then_else_, is-empty, all, between, split, front}
+use Rattle.policy.specs.Tags.{Tag, name-and-value, tags-from, has-version, parts}
 
 -- `DMARC1`
 abbrev pub version : Octets
@@ -28,16 +27,3 @@ value-of s = elim (name-and-value s) [ nothing ↦ [] | just t ↦ t .1 ]
 -- "one or more octets 32 to 126"
 unfoldable pub is-value : Octets → Bool
 is-value v = not (is-empty v) && all (between 32 126) v
-
--- whether a part, trimmed, is a well-formed tag of a name
-unfoldable pub has-name : Octets → Octets → Bool
-has-name n s = elim (name-and-value s) [ nothing ↦ false | just t ↦ same (t .0) n && well-formed t ]
-
--- its value, empty where it is none
-unfoldable pub value-named : Octets → Octets → Octets
-value-named n s = if has-name n s then value-of s else []
-
--- where a tag's value stands; 0 and 0 where there is no tag
-unfoldable pub bounds-of : Option Tag → Bounds
-bounds-of nothing = record { begin = 0; length = 0 }
-bounds-of (just t) = record { begin = t .place; length = length (t .value) }

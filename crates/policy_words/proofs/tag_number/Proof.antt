@@ -1,82 +1,19 @@
--- `policy_words::tag_number` meets its contract, case by case.
+-- `policy_words::tag_number` meets its contract: the words of its table are the tag names, computed.
 use borrow.Author.Needs.{needs}
-use Rattle.policy_words.specs.code.Rows.{tag-number}
+use Rattle.octets.specs.Octets.{octets, between, lower-octet, lower, part-of}
+use Rattle.policy_words.specs.code.Rows.{tag-names, tag-number, row-word, row-of}
 use Rattle.policy_words.proofs.tag_number.Statement.{statement}
 use Rattle.policy_words.proofs.tag_number.Tie as tie
 
-enum-told : tie.Need-enum-told
-enum-told c = search needs
+slice-aggregate-find-word : tie.Need-slice-aggregate-find-word
+slice-aggregate-find-word c = search needs
 
-enum-told-2 : tie.Need-enum-told-2
-enum-told-2 c = search needs
-
-enum-told-3 : tie.Need-enum-told-3
-enum-told-3 c = search needs
-
-enum-told-4 : tie.Need-enum-told-4
-enum-told-4 c = search needs
-
-enum-told-5 : tie.Need-enum-told-5
-enum-told-5 c = search needs
-
-enum-told-6 : tie.Need-enum-told-6
-enum-told-6 c = search needs
-
-enum-told-7 : tie.Need-enum-told-7
-enum-told-7 c = search needs
-
-enum-told-8 : tie.Need-enum-told-8
-enum-told-8 c = search needs
+find-word-requires : tie.Need-find-word-requires
+find-word-requires c κs = search needs
 
 returns : tie.Need-returns
-unfolding tag-number
-returns c = rw (c .enum-told .given .1)
-
-returns-2 : tie.Need-returns-2
-unfolding tag-number
-returns-2 c = rw (c .enum-told2 .given .1)
-
-returns-3 : tie.Need-returns-3
-unfolding tag-number
-returns-3 c = rw (c .enum-told3 .given .1)
-
-returns-4 : tie.Need-returns-4
-unfolding tag-number
-returns-4 c = rw (c .enum-told4 .given .1)
-
-returns-5 : tie.Need-returns-5
-unfolding tag-number
-returns-5 c = rw (c .enum-told5 .given .1)
-
-returns-6 : tie.Need-returns-6
-unfolding tag-number
-returns-6 c = rw (c .enum-told6 .given .1)
-
-returns-7 : tie.Need-returns-7
-unfolding tag-number
-returns-7 c = rw (c .enum-told7 .given .1)
-
-returns-8 : tie.Need-returns-8
-unfolding tag-number
-returns-8 c = rw (c .enum-told8 .given .1)
+unfolding tag-number tag-names row-of row-word part-of octets lower lower-octet between
+returns c = c .find-word .ensures
 
 pub tag-number-spec : {M : Type 1} → statement M
-tag-number-spec =
-    tie.close
-    (tie.spec
-    enum-told
-    enum-told-2
-    enum-told-3
-    enum-told-4
-    enum-told-5
-    enum-told-6
-    enum-told-7
-    enum-told-8
-    returns
-    returns-2
-    returns-3
-    returns-4
-    returns-5
-    returns-6
-    returns-7
-    returns-8)
+tag-number-spec = tie.close (tie.spec slice-aggregate-find-word find-word-requires returns)

@@ -6,7 +6,6 @@ use Prim.Native.String.{String}
 use lib.ListN.{getD}
 use Rattle.octets.specs.Octets.{Octets, octets, same, lower, part-of}
 use Rattle.policy.specs.declared.Policy.{Policy}
-use Rattle.policy_words.specs.declared.TagName.{TagName}
 
 -- none 0, quarantine 1, reject 2
 unfoldable pub policy-number : Policy → ℕ
@@ -18,24 +17,13 @@ policy-number Policy.Reject = 2
 unfoldable pub policy-at : ℕ → Policy
 policy-at n = getD (Policy.None ∷ Policy.Quarantine ∷ Policy.Reject ∷ []) n Policy.None
 
--- the known tag names: "`p`, `sp`, `np` .. `adkim`, `aspf` .. `psd` .. `t` .. `rua`"
+-- the known tag names: "`p`, `sp`, `np` .. `adkim`, `aspf` .. `psd` .. `t` .. `rua`", and `v`; then the others of RFC 9989's registry, which set nothing
 unfoldable pub tag-names : List String
-tag-names = "p" ∷ "sp" ∷ "np" ∷ "adkim" ∷ "aspf" ∷ "psd" ∷ "t" ∷ "rua" ∷ []
+tag-names = "p" ∷ "sp" ∷ "np" ∷ "adkim" ∷ "aspf" ∷ "psd" ∷ "t" ∷ "rua" ∷ "v" ∷ "ruf" ∷ "fo" ∷ "pct" ∷ "rf" ∷ "ri" ∷ []
 
--- a known tag name's place in the list of them
-unfoldable pub tag-number : TagName → ℕ
-tag-number TagName.P = 0
-tag-number TagName.Sp = 1
-tag-number TagName.Np = 2
-tag-number TagName.Adkim = 3
-tag-number TagName.Aspf = 4
-tag-number TagName.Psd = 5
-tag-number TagName.T = 6
-tag-number TagName.Rua = 7
-
--- its octets
-unfoldable pub tag-word : TagName → Octets
-tag-word t = octets (getD tag-names (tag-number t) "")
+-- the name of a number
+unfoldable pub tag-name : ℕ → Octets
+tag-name k = getD (map octets tag-names) k []
 
 -- a row of a table of words: the place at which the word ends, and then the word
 unfoldable pub row-word : Octets → Octets
@@ -45,6 +33,10 @@ row-word row = part-of row 1 (getD row 0 0)
 unfoldable pub position : Octets → List Octets → ℕ
 position s [] = 0
 position s (w ∷ ws) = elim (same s w) [ true ↦ 0 | false ↦ suc (position s ws) ]
+
+-- the number of a tag name in lower case; 14 where it is not known
+unfoldable pub tag-number : Octets → ℕ
+tag-number n = position n (map octets tag-names)
 
 -- the row whose word a text is, in either case; how many rows there are where it is none
 unfoldable pub row-of : Octets → List Octets → ℕ

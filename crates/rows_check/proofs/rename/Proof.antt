@@ -1,5 +1,5 @@
 -- `rows_check::rename` meets its contract.
-use mathlib.Core.Path.{refl, sym, _∙_}
+use mathlib.Core.Path.{sym, _∙_}
 use borrow.Author.Tests.{not-true, not-false}
 use borrow.Author.Needs.{needs}
 use Rattle.rows_check.proofs.CheckLaws.{renamed-bad, renamed-good}

@@ -1,5 +1,4 @@
 -- `rows_check::serves` meets its contract.
-use mathlib.Core.Path.{sym, _∙_}
 use borrow.Author.Tests.{not-true, not-false}
 use borrow.Author.Needs.{needs}
 use Rattle.rows_check.proofs.CheckLaws.{serves-never, serves-named}

@@ -1,5 +1,5 @@
-//! Tests whose expected values come from the documents: document 01, Ask 1 of
-//! document 02, the agreed readings (by their point numbers) and RFC 9989.
+//! Tests whose expected values come from the documents: document 01, Asks 1
+//! and 2 of document 02, the agreed readings (by their point numbers) and RFC 9989.
 
 mod case;
 mod octets;
@@ -8,6 +8,7 @@ mod answers;
 mod book;
 mod disposition;
 mod policy_text;
+mod repeated_tags;
 mod report;
 mod rows;
 mod sheets;

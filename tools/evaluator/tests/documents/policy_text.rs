@@ -1,4 +1,4 @@
-//! Readings 35 to 50: policy texts.
+//! Readings 35 to 50: policy texts. `repeated_tags` has 40, 41 and what Ask 2 made of them.
 
 use crate::case::{case, REJECT};
 use evaluator::policy::{read, rua_part, rua_text, valid_entries};
@@ -141,21 +141,6 @@ fn point_39_the_first_equals_sign_parts() {
 }
 
 #[test]
-fn point_40_the_first_of_a_name_counts() {
-    assert_eq!(settings(b"v=DMARC1; sp=; sp=none").sp, VALID_NONE);
-    assert_eq!(settings(b"v=DMARC1; p=often; p=reject").p, Request::Invalid);
-    assert_eq!(settings(b"v=DMARC1; P=none; p=reject").p, VALID_NONE);
-    assert_eq!(settings(b"v=DMARC1; psd=x; psd=y").psd, Psd::Unset);
-    assert!(!settings(b"v=DMARC1; t=n; t=y").testing);
-}
-
-#[test]
-fn point_41_a_later_v_is_ignored() {
-    let read = settings(b"v=DMARC1; v=DMARC2; p=none");
-    assert_eq!(read.p, VALID_NONE);
-}
-
-#[test]
 fn point_42_values_in_either_case_and_whole() {
     assert_eq!(settings(b"v=DMARC1; p=REJECT").p, VALID_REJECT);
     assert_eq!(settings(b"v=DMARC1; p=Quarantine").p, VALID_QUARANTINE);
@@ -244,7 +229,7 @@ fn point_46_no_exclamation_mark() {
 
 #[test]
 fn point_47_the_rua_text_as_a_part_of_the_text() {
-    let text = b"v=DMARC1; p=none; rua= \t mailto:a@b , x \t ; rua=a:b";
+    let text = b"v=DMARC1; p=none; rua= \t mailto:a@b , x \t ; t=y";
     assert_eq!(rua_text(text), b"mailto:a@b , x");
     assert_eq!(rua_part(text), (25, 14));
     // Valid entries or not.
@@ -260,7 +245,7 @@ fn point_47_the_rua_text_as_a_part_of_the_text() {
         assert_eq!(rua_part(text), (0, 0), "{text:?}");
         assert_eq!(rua_text(text), b"");
     }
-    // The first well-formed part.
+    // The only well-formed part.
     assert_eq!(rua_text(b"v=DMARC1; rua=; rua=a:\x80; rua=b:c"), b"b:c");
 }
 

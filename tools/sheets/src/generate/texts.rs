@@ -1,5 +1,6 @@
 //! Seeded policy texts, junk texts and answers' bytes.
 
+use super::repeats;
 use crate::random::Random;
 use crate::written::answer_bytes;
 
@@ -118,6 +119,21 @@ const JUNK_TEXTS: &[&str] = &[
 
 /// A policy text in usual form, mostly usable.
 pub fn plain(random: &mut Random, psd_rate: usize) -> Vec<u8> {
+    let mut tags = plain_tags(random, psd_rate);
+    if random.percent(8) {
+        repeats::again(random, &mut tags);
+    }
+    octets(&joined(random, "v=DMARC1", &tags))
+}
+
+/// A policy text in usual form but for a tag that comes again, or nearly so.
+fn repeating(random: &mut Random, psd_rate: usize) -> Vec<u8> {
+    let mut tags = plain_tags(random, psd_rate);
+    repeats::again(random, &mut tags);
+    octets(&joined(random, "v=DMARC1", &tags))
+}
+
+fn plain_tags(random: &mut Random, psd_rate: usize) -> Vec<String> {
     let mut tags = Vec::new();
     if random.percent(95) {
         tags.push(request(random, "p", 4));
@@ -147,7 +163,7 @@ pub fn plain(random: &mut Random, psd_rate: usize) -> Vec<u8> {
     if random.percent(30) {
         random.shuffle(&mut tags);
     }
-    joined(random, "v=DMARC1", &tags).into_bytes()
+    tags
 }
 
 fn request(random: &mut Random, name: &str, bad_rate: usize) -> String {
@@ -172,7 +188,15 @@ fn joined(random: &mut Random, version: &str, tags: &[String]) -> String {
     text
 }
 
-/// A policy text with odd blanks, case, values, repeated tags and parts.
+/// Characters up to 255 stand for the octets of their numbers, not for their UTF-8
+/// form.
+fn octets(text: &str) -> Vec<u8> {
+    let octet = |c: char| u8::try_from(c).unwrap_or(b'?');
+    text.chars().map(octet).collect()
+}
+
+/// A policy text with odd blanks, case, values and parts, at times with tags that
+/// come again.
 pub fn odd(random: &mut Random) -> Vec<u8> {
     let mut tags = Vec::new();
     for _ in 0..random.between(0, 7) {
@@ -190,11 +214,14 @@ pub fn odd(random: &mut Random) -> Vec<u8> {
         let filler = "z".repeat(random.between(200, 1500));
         tags.push(format!("x={filler}"));
     }
+    if random.percent(75) {
+        repeats::distinct(&mut tags);
+    }
+    if random.percent(15) {
+        repeats::again(random, &mut tags);
+    }
     let version = random.pick(GOOD_VERSIONS);
-    let text = joined(random, version, &tags);
-    // Octets over 126 stand for themselves, not for their UTF-8 form.
-    let octet = |c: char| u8::try_from(c).unwrap_or(b'?');
-    let mut text: Vec<u8> = text.chars().map(octet).collect();
+    let mut text = octets(&joined(random, version, &tags));
     if random.percent(20) {
         scratched(random, &mut text);
     }
@@ -251,7 +278,8 @@ fn any(random: &mut Random, psd_rate: usize) -> Vec<u8> {
     }
 }
 
-/// The texts of an answer: a policy record, maybe among junk, or two, or none.
+/// The texts of an answer: a policy record, maybe among junk or texts with a tag
+/// twice, or two, or none.
 fn texts(random: &mut Random, psd_rate: usize) -> Vec<Vec<u8>> {
     let mut texts = Vec::new();
     match random.below(20) {
@@ -269,6 +297,13 @@ fn texts(random: &mut Random, psd_rate: usize) -> Vec<Vec<u8>> {
             texts.resize(random.between(10, 16), b"more".to_vec());
             random.shuffle(&mut texts);
         }
+        5 | 6 => {
+            texts.push(any(random, psd_rate));
+            for _ in 0..random.between(1, 2) {
+                texts.push(repeating(random, psd_rate));
+            }
+            random.shuffle(&mut texts);
+        }
         _ => texts.push(any(random, psd_rate)),
     }
     texts
@@ -284,6 +319,23 @@ pub fn answer(random: &mut Random, psd_rate: usize) -> Vec<u8> {
 pub fn plain_answer(random: &mut Random, psd_rate: usize) -> Vec<u8> {
     let text = plain(random, psd_rate);
     encoded(random, &[text])
+}
+
+/// An answer with texts that have a tag twice, or nearly so, with a usual policy
+/// record or without; at times over 4,096 octets, else readable.
+pub fn repeating_answer(random: &mut Random, psd_rate: usize) -> Vec<u8> {
+    let count = random.pick(&[1, 1, 1, 2, 3, 15]);
+    // A text of 4,076 octets fills an answer.
+    let most = random.pick(&[4076, 3500]);
+    let mut texts: Vec<Vec<u8>> = match random.percent(25) {
+        true => vec![repeats::long_list(random, most)],
+        false => (0..count).map(|_| repeating(random, psd_rate)).collect(),
+    };
+    if random.percent(50) {
+        texts.push(plain(random, psd_rate));
+        random.shuffle(&mut texts);
+    }
+    encoded(random, &texts)
 }
 
 /// A readable answer with a record that lets walks go on.

@@ -20,6 +20,7 @@ mod line;
 mod names;
 mod octets;
 mod policies;
+mod repeats;
 
 use super::cases::Files;
 use case::{Case, FieldCase};
@@ -27,7 +28,8 @@ use line::line;
 
 /// All cases: policy texts, answers, file names, fields.
 fn cases() -> Vec<Case> {
-    let policies = policies::texts().into_iter().map(Case::Policy);
+    let policies = policies::texts().into_iter().chain(repeats::texts());
+    let policies = policies.map(Case::Policy);
     let answers = answers::answers().into_iter().map(Case::Answer);
     let names = names::names().into_iter().map(Case::FileName);
     let fields = fields::fields().into_iter();

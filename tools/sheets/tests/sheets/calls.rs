@@ -226,6 +226,28 @@ fn marked_sheets() {
     }
 }
 
+/// Reading 126.
+#[test]
+fn one_tag_twice() {
+    let calls = calls();
+    let of = |kind| {
+        let identifier = item(kind, 1, b"mail.example.com");
+        start(1, 1, b"twice.example.com", &[identifier])
+    };
+    let names = [
+        "twice.example.com",
+        "example.com",
+        "com",
+        "mail.example.com",
+    ];
+    let own = verdict(4, "pass quarantine none", "twice.example.com", "a");
+    let entered = finding([1, 0, 1, 0], "twice.example.com");
+    check(&calls, &of(1), &names, &own, &entered);
+    let above = verdict(4, "pass reject none", "com", "a");
+    let entered = finding([1, 0, 0, 1], "com");
+    check(&calls, &of(0), &names, &above, &entered);
+}
+
 #[test]
 fn as_many_names_as_there_can_be() {
     let calls = calls();

@@ -110,6 +110,13 @@ fn note_records(seen: &mut Seen, bytes: &[u8]) {
         "a policy record among others",
     );
     seen.note_if(records.len() > 9, "ten records and more");
+    if texts
+        .iter()
+        .any(|text| policy::repeated_name(text).is_some())
+    {
+        seen.note_if(policies == 1, "a tag twice beside one policy record");
+        seen.note_if(policies == 2, "a tag twice beside two policy records");
+    }
     for (text, strings) in texts.iter().zip(&records) {
         seen.note_if(strings.len() > 1, "a record of several strings");
         seen.note_if(strings.contains(&b"".as_slice()), "an empty string");
@@ -120,11 +127,7 @@ fn note_records(seen: &mut Seen, bytes: &[u8]) {
 
 fn note_text(seen: &mut Seen, text: &[u8]) {
     let Some(settings) = policy::read(text) else {
-        let near = text
-            .to_ascii_lowercase()
-            .windows(6)
-            .any(|part| part == b"dmarc1");
-        return seen.note_if(near, "nearly a policy record");
+        return note_no_record(seen, text);
     };
     seen.note_if(text.contains(&b'\t'), "a tab in a policy record");
     seen.note_if(!text.is_ascii(), "an octet over 127 in a policy record");
@@ -136,7 +139,25 @@ fn note_text(seen: &mut Seen, text: &[u8]) {
     let parts: Vec<Vec<u8>> = text.split(|octet| *octet == b';').map(name_of).collect();
     let twice =
         |name: &Vec<u8>| !name.is_empty() && parts.iter().filter(|o| *o == name).count() > 1;
-    seen.note_if(parts.iter().any(twice), "a tag twice");
+    seen.note_if(
+        parts.iter().any(twice),
+        "a name twice in a policy record, but in an ill-formed part",
+    );
+}
+
+fn note_no_record(seen: &mut Seen, text: &[u8]) {
+    if let Some(name) = policy::repeated_name(text) {
+        let name = name.to_ascii_lowercase();
+        let kind = match name.as_slice() {
+            b"v" => "v",
+            b"p" | b"sp" | b"np" | b"adkim" | b"aspf" | b"psd" | b"t" | b"rua" => "a known tag",
+            _ => "an unknown tag",
+        };
+        return seen.note(format!("{kind} twice"));
+    }
+    let lower = text.to_ascii_lowercase();
+    let near = lower.windows(6).any(|part| part == b"dmarc1");
+    seen.note_if(near, "nearly a policy record");
 }
 
 /// What stands before `=` in a part, in lower case.
@@ -164,7 +185,12 @@ const FEATURES: &[&str] = &[
     "a tab in a policy record",
     "an octet over 127 in a policy record",
     "a rua text without a valid entry",
-    "a tag twice",
+    "a name twice in a policy record, but in an ill-formed part",
+    "v twice",
+    "a known tag twice",
+    "an unknown tag twice",
+    "a tag twice beside one policy record",
+    "a tag twice beside two policy records",
 ];
 
 #[test]

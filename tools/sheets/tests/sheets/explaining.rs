@@ -188,6 +188,40 @@ fn results_by_unknown_and_by_a_temporary_error() {
     assert!(temporary.contains(&line.to_string()), "{temporary:#?}");
 }
 
+/// Ask 2 of document 02, at the author's names and at an identifier's.
+#[test]
+fn texts_with_a_tag_twice() {
+    let told = lines(&sheet(
+        r#"author example.com exists supported
+        dkim pass mail.other.test
+        answer _dmarc.example.com "v=DMARC1; p=none; P=reject" "v=DMARC1; p=reject" "p=none; p=none"
+        answer _dmarc.com "v=DMARC1; sp=; sp=none"
+        answer _dmarc.mail.other.test "V=DMARC1;fo=1;p=none;v=DMARC1;fo=1"
+        answer _dmarc.other.test none
+        answer _dmarc.test none
+        answer _dmarc.net "v=DMARC1; x=1; x=1""#,
+    ));
+    let expected = [
+        "policy record: at example.com, the author domain's own",
+        "  text: \"v=DMARC1; p=reject\"",
+        "a text at example.com: tag p written twice, so no policy record",
+        "  text: \"v=DMARC1; p=none; P=reject\"",
+        "a text at mail.other.test: tag v written twice, so no policy record",
+        "  text: \"V=DMARC1;fo=1;p=none;v=DMARC1;fo=1\"",
+        "author's organizational domain: com",
+    ];
+    assert_eq!(told[1..8], expected);
+    let alone = lines(&sheet(
+        r#"author com exists supported
+        answer _dmarc.com "v=DMARC1; rua=a:b; x=1; Rua=a:b""#,
+    ));
+    let expected = [
+        "policy record: none; the author's walk found no record that applies",
+        "a text at com: tag rua written twice, so no policy record",
+    ];
+    assert_eq!(alone[1..3], expected);
+}
+
 #[test]
 fn refusals() {
     assert_eq!(

@@ -16,6 +16,7 @@ mod explaining;
 mod generator;
 mod marked;
 mod messages;
+mod repeats;
 mod script;
 mod timing;
 mod vectors;

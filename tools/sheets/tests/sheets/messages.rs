@@ -1,5 +1,5 @@
 //! The sheets that a program runs one after the other: outputs of the broken
-//! and odd ones written by hand from readings 101 to 113.
+//! and odd ones written by hand from readings 101 to 113 and 126.
 
 use crate::octets::{printed, run};
 use crate::stored::{bodies, check_stored};
@@ -127,6 +127,29 @@ const ODD: &[(&str, &[&str], &str)] = &[
         "113: an identifier's name has no answer",
         &["com", "net"],
         "temperror reject defer",
+    ),
+    ("126: p twice", &["example.com", "com"], "none none none"),
+    (
+        "126: p twice beside one record",
+        &["example.com"],
+        "fail reject reject",
+    ),
+    ("126: v again", &["example.com", "com"], "none none none"),
+    (
+        "126: an unknown name again, in the other case",
+        &["example.com", "com"],
+        "none none none",
+    ),
+    (
+        "126: sp again, but without a value",
+        &["example.com"],
+        "fail reject reject",
+    ),
+    ("126: rua twice", &["example.com", "com"], "none none none"),
+    (
+        "126: psd=y twice ends no walk",
+        &["a.example.com", "example.com", "com"],
+        "none none none",
     ),
 ];
 

@@ -40,7 +40,7 @@ fn settings(changed: &str) -> String {
 #[test]
 fn policy_texts() {
     // Text; `none`, or the settings that are not at their defaults; rua text.
-    let table: [(&[u8], &str, &str); 21] = [
+    let table: [(&[u8], &str, &str); 17] = [
         // 35
         (b" v=DMARC1", "none", "0:"),
         (b"v=DMARC1\r\n", "none", "0:"),
@@ -54,12 +54,6 @@ fn policy_texts() {
         (b"v=DMARC1; p=reject; sp=", "p=reject", "0:"),
         // 39
         (b"v=DMARC1; p==reject", "p=invalid", "0:"),
-        // 40
-        (b"v=DMARC1; sp=; sp=none", "sp=none", "0:"),
-        (b"v=DMARC1; p=often; p=reject", "p=invalid", "0:"),
-        (b"v=DMARC1; P=none; p=reject", "p=none", "0:"),
-        // 41
-        (b"v=DMARC1; v=DMARC2; p=none", "p=none", "0:"),
         // 42
         (b"v=DMARC1; adkim=strict; aspf=strict", "", "0:"),
         (b"v=DMARC1; t=Y", "t=y", "0:"),
@@ -92,24 +86,97 @@ fn policy_texts() {
             "8:mailto:a",
         ),
     ];
+    policies(&table);
+}
+
+/// Checks the lines of policy texts.
+fn policies(table: &[(&[u8], &str, &str)]) {
     let vectors = vectors();
     for (text, changed, rua) in table {
-        let words = match changed {
+        let words = match *changed {
             "none" => "none".to_string(),
-            _ => settings(changed),
+            changed => settings(changed),
         };
         check(&vectors, b'P', text, &format!("policy {words} rua={rua}"));
     }
 }
 
 #[test]
+fn one_tag_twice() {
+    // As above, by reading 125.
+    let table: [(&[u8], &str, &str); 19] = [
+        (b"v=DMARC1; p=none; p=reject", "none", "0:"),
+        (b"v=DMARC1; p=often; p=reject", "none", "0:"),
+        (b"v=DMARC1; P=none; p=reject", "none", "0:"),
+        (b"v=DMARC1; V=x", "none", "0:"),
+        (b"v=DMARC1; v=DMARC1; p=none", "none", "0:"),
+        (b"v=DMARC1; v=DMARC2; p=none", "none", "0:"),
+        (b"v=DMARC1; v; v=; p=none", "p=none", "0:"),
+        (b"v=DMARC1; foo=1; FOO=2", "none", "0:"),
+        (b"v=DMARC1; fo=1; fo=1", "none", "0:"),
+        (b"v=DMARC1; p=none; x=1; y=2; z=3; x=4", "none", "0:"),
+        (
+            b"v=DMARC1; x=1; xx=2; xxx=3; y=1; xy=2; yx=3; p=none",
+            "p=none",
+            "0:",
+        ),
+        (b"v=DMARC1;\tp =none;p\t=none", "none", "0:"),
+        (b"v=DMARC1; sp=; sp=none", "sp=none", "0:"),
+        (b"v=DMARC1; p=reject; p=none\x7f; p=\x80", "p=reject", "0:"),
+        (b"v=DMARC1; p=reject; p=~", "none", "0:"),
+        (b"v=DMARC1; =x; =y; ==; p=none", "p=none", "0:"),
+        (b"v=DMARC1; p=none; psd=y; psd=y", "none", "0:"),
+        (b"v=DMARC1; rua=a:b; rua=cc:dd", "none", "0:"),
+        (
+            b"v=DMARC1; rua=; rua=a:\x80; rua=cc:dd",
+            "reports=yes",
+            "5:cc:dd",
+        ),
+    ];
+    policies(&table);
+}
+
+/// The long texts of many names, by reading 125: those that end in a name that
+/// came before are none.
+#[test]
+fn lists_of_names() {
+    let mut seen = BTreeMap::new();
+    for (_, body, line) in vectors() {
+        let Some(rest) = body.strip_prefix(b"v=DMARC1;a=1;b=1;c=1;".as_slice()) else {
+            continue;
+        };
+        let last = rest.split(|octet| *octet == b';').next_back();
+        let last = last.unwrap_or_default().escape_ascii().to_string();
+        let none = line == "policy none rua=0:";
+        *seen.entry((body.len(), last, none)).or_insert(0) += 1;
+    }
+    for (last, none) in [("a=1", true), ("V=1", true), ("a=", false)] {
+        for octets in [130, 700, 4096] {
+            let key = (octets, last.to_string(), none);
+            assert_eq!(seen.get(&key), Some(&1), "{key:?} of {seen:#?}");
+        }
+    }
+    assert!(seen.contains_key(&(4096, "ZZ=1".to_string(), true)));
+    assert!(seen.contains_key(&(130, "ZZ=1".to_string(), false)));
+    assert!(seen.contains_key(&(700, "zzz=1".to_string(), true)));
+    let alone = |key: &&(usize, String, bool)| key.0 == 4096 && !key.2;
+    assert_eq!(seen.keys().filter(alone).count(), 2);
+}
+
+#[test]
 fn answers() {
     let two = [tx(&[b"ab"]), tx(&[b"v=DMARC1; p=none"])].concat();
     let identical = tx(&[b"v=DMARC1; p=none"]).repeat(2);
+    let fo: &[u8] = b"v=DMARC1;fo=1;fo=1";
+    let good: &[u8] = b"v=DMARC1; p=reject; t=y";
+    let beside = |texts: &[&[u8]]| {
+        let records = texts.iter().map(|text| tx(&[text]));
+        answer(0, 4096, &records.collect::<Vec<_>>().concat())
+    };
     let sixteenth = [tx(&[b"v=DMARC1; p=none"]).repeat(15), b"TX\0\0".to_vec()].concat();
     // An untouched scratch of n octets has the sum 255 n (n + 1) / 2, less a
     // multiple of 65,521: 29,025 for 4,096 and 14,025 for 10.
-    let table: [(Vec<u8>, &str); 10] = [
+    let table: [(Vec<u8>, &str); 13] = [
         // 22
         (answer(2, 0, b""), "refused 10 at 4096 scratch=0:0:"),
         (answer(2, 4096, b""), "error scratch=0:29025:"),
@@ -144,6 +211,20 @@ fn answers() {
             answer(0, 4096, &tx(&[b"v=DMARC1"])),
             "record p=absent sp=absent np=absent adkim=r aspf=r psd=u t=n reports=no \
              scratch=8:22275:763d444d41524331",
+        ),
+        // 126: the scratch holds the texts that are dropped too.
+        (
+            beside(&[fo]),
+            "none scratch=18:63563:763d444d415243313b666f3d313b666f3d31",
+        ),
+        (
+            beside(&[fo, good]),
+            "record p=reject sp=absent np=absent adkim=r aspf=r psd=u t=y reports=no \
+             scratch=41:10360:763d444d415243313b666f3d313b666f3d31763d444d415243313b20703d72656a6563743b20743d",
+        ),
+        (
+            beside(&[good, fo, good]),
+            "none scratch=64:59283:763d444d415243313b20703d72656a6563743b20743d79763d444d415243313b666f3d313b666f3d",
         ),
     ];
     let vectors = vectors();

@@ -24,6 +24,9 @@ pub const DRAFT_FAULTS: &[fn(&mut Random, &mut Draft)] = &[
     limit_answer,
     limit_answer,
     limit_answer,
+    repeating_answer,
+    repeating_answer,
+    repeating_answer,
     second_answer,
     second_answer,
     bad_answer_name,
@@ -171,6 +174,12 @@ fn limit_answer(random: &mut Random, draft: &mut Draft) {
             filled(head, octets, 2)
         }
     };
+    spoil_answer(random, draft, bytes);
+}
+
+/// An answer whose texts have a tag twice, or nearly so.
+fn repeating_answer(random: &mut Random, draft: &mut Draft) {
+    let bytes = texts::repeating_answer(random, 30);
     spoil_answer(random, draft, bytes);
 }
 

@@ -190,6 +190,17 @@ const DESCRIBED: &[&str] = &[
      dkim pass com
      dkim pass example.com
      answer _dmarc.b.example.com "v=DMARC1; p=quarantine""#,
+    // A text with a tag twice is dropped: the one beside it applies, or the walk goes on.
+    r#"author twice.example.com exists supported
+     dkim pass mail.example.com
+     answer _dmarc.twice.example.com "v=DMARC1; p=none; p=reject" "v=DMARC1; p=quarantine; sp=; sp=none"
+     answer _dmarc.example.com "v=DMARC1; p=reject""#,
+    r#"author twice.example.com exists supported
+     spf pass mail.example.com
+     answer _dmarc.twice.example.com "v=DMARC1; p=none; v=DMARC1"
+     answer _dmarc.mail.example.com "v=DMARC1; p=none; psd=n; PSD=n"
+     answer _dmarc.example.com "v=DMARC1; p=none; fo=1; rua=a:b; Fo=1"
+     answer _dmarc.com "v=DMARC1; p=reject; psd=u""#,
     // Labels of odd octets.
     r#"author -.9._s.x-1 exists supported
      dkim pass _.-.9._S.X-1

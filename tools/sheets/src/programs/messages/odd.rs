@@ -79,6 +79,7 @@ pub fn sheets() -> Vec<(&'static str, Vec<u8>)> {
         starts(),
         answers(),
         unanswered(),
+        repeated_tags(),
     ];
     let sheets = tables.into_iter().flatten();
     sheets.map(|(name, sheet)| (name, sheet.octets)).collect()
@@ -302,6 +303,38 @@ fn unanswered() -> Table {
             author(b"com")
                 .dkim(1, b"net")
                 .text(b"_dmarc.com", b"v=DMARC1; p=reject"),
+        ),
+    ]
+}
+
+/// Reading 126.
+fn repeated_tags() -> Table {
+    let own: &[u8] = b"_dmarc.example.com";
+    let at = |text: &[u8]| author(b"example.com").text(own, text).none(b"_dmarc.com");
+    let twice: &[u8] = b"v=DMARC1; p=none; p=reject";
+    let beside = answer_bytes(&[vec![twice], vec![b"v=DMARC1; p=reject".as_slice()]]);
+    vec![
+        ("126: p twice", at(twice)),
+        (
+            "126: p twice beside one record",
+            author(b"example.com").an(0, own, &beside.unwrap_or_default()),
+        ),
+        ("126: v again", at(b"v=DMARC1; p=reject; v=DMARC1")),
+        (
+            "126: an unknown name again, in the other case",
+            at(b"v=DMARC1; x=1; p=reject; X=1"),
+        ),
+        (
+            "126: sp again, but without a value",
+            at(b"v=DMARC1; sp=; p=reject; sp=none"),
+        ),
+        ("126: rua twice", at(b"v=DMARC1; p=often; rua=a:b; rua=a:b")),
+        (
+            "126: psd=y twice ends no walk",
+            author(b"a.example.com")
+                .none(b"_dmarc.a.example.com")
+                .text(own, b"v=DMARC1; p=none; psd=y; psd=y")
+                .none(b"_dmarc.com"),
         ),
     ]
 }

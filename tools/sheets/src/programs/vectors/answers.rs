@@ -1,4 +1,6 @@
-//! Answers: readings 22 to 29, 34, 48 and 49.
+//! Answers: readings 22 to 29, 34, 48, 49 and 126.
+
+mod repeats;
 
 use super::case::AnswerCase;
 use super::octets::padded;
@@ -19,6 +21,7 @@ pub fn answers() -> Vec<AnswerCase> {
     answers.extend(unreadable());
     answers.extend(readable());
     answers.extend(replies());
+    answers.extend(repeats::answers());
     answers.extend(late_faults());
     answers.extend(cuts());
     answers.extend(lengths());
