@@ -1,71 +1,82 @@
-// The labels of a domain, the targets of its walk, and whether a target can be asked.
+// Where the labels of a domain begin, found in one pass; the targets of a walk by them, and whether a target can be asked.
 ghost use mathlib.Core.Path.{_≡_};
-ghost use Prim.Native.Nat.{min};
-ghost use mathlib.Core.List.{[]};
-ghost use lib.ListN.{length, drop, getD};
-ghost use Rattle.domain.specs.Domain.{label-count, last-labels, begin-of, targets, can-ask};
+ghost use Prim.Native.Nat.{_<_, _≤_, min};
+ghost use lib.ListN.{length, drop};
+ghost use Rattle.domain.specs.Domain.{Domain, targets, can-ask};
+ghost use Rattle.domain_labels.specs.code.Places.{Passes, target-of, Finds};
 use domain::Labels;
 use domain::Octet;
 
-// The number of labels.
-pub fn count_labels(s: &[u8]) -> Labels
-    ensures { λ r. ⌜ r .0 ≡ label-count (now (s .entry)) ⌝ }
+// What one pass over a domain finds: where its last 1, 2, .. 8 labels begin, how many labels it has, and the rounds of
+// the pass.
+pub struct Starts {
+    pub begins: [Octet; 8],
+    pub labels: Labels,
+    pub rounds: usize,
+}
+
+// A target of a walk: where it begins, and where it begins with one more label.
+pub struct Target {
+    pub begin: Octet,
+    pub wider: Octet,
+}
+
+// Where the last labels of a domain begin, in one pass from its end.
+pub fn find_starts(s: &[u8]) -> Starts
+    ensures { λ r. ⌜ Passes (now (s .entry)) r ⌝ }
 {
-    let mut n = 1;
-    let mut i = 0;
-    while i < s.len() {
-        if s[i] == b'.' {
-            n = n + 1;
+    let mut begins = [Octet(0); 8];
+    let mut labels = 1;
+    let mut rounds = 0;
+    let mut i = s.len();
+    while 0 < i {
+        if s[i - 1] == b'.' {
+            if labels <= 8 {
+                begins[labels - 1] = Octet(i);
+            }
+            labels = labels + 1;
         }
-        i = i + 1;
+        i = i - 1;
+        rounds = rounds + 1;
+    }
+    Starts {
+        begins,
+        labels: Labels(labels),
+        rounds,
+    }
+}
+
+// How many targets a walk looks at, as many as the labels that it goes up.
+pub fn count_targets(t: Starts) -> Labels
+    ensures { λ r. ⌜ ((d : Domain) → Passes d t → r .0 ≡ length (targets d)) ⌝ }
+{
+    let n = t.labels.0;
+    if 8 < n {
+        return Labels(8);
     }
     Labels(n)
 }
 
-// Where the last n labels begin.
-pub fn find_last(s: &[u8], n: Labels) -> Octet
-    ensures { λ r. ⌜ r .0 ≡ begin-of (last-labels (n .0) (now (s .entry))) (now (s .entry)) ⌝ }
+// The target that has n labels left; the first one has all.
+pub fn find_target(t: Starts, n: Labels) -> Target
+    ensures { λ r. ⌜ ((d : Domain) → Passes d t → 0 < n .0 → n .0 ≤ length (targets d) → Finds d (target-of (n .0) d) r) ⌝ }
 {
-    let mut left = n.0;
-    let mut i = s.len();
-    if left == 0 {
-        return Octet(i);
-    }
-    while 0 < i {
-        if s[i - 1] == b'.' {
-            left = left - 1;
-            if left == 0 {
-                return Octet(i);
-            }
-        }
-        i = i - 1;
-    }
-    Octet(0)
-}
-
-// How many targets a walk looks at.
-pub fn count_targets(s: &[u8]) -> Labels
-    ensures { λ r. ⌜ r .0 ≡ length (targets (now (s .entry))) ⌝ }
-{
-    let n = count_labels(s);
-    if 8 < n.0 {
-        return Labels(8);
-    }
-    n
-}
-
-// Where the k-th target of a walk begins, from 0; past the last one, the end.
-pub fn find_target(s: &[u8], k: usize) -> Octet
-    ensures { λ r. ⌜ r .0 ≡ begin-of (getD (targets (now (s .entry))) k []) (now (s .entry)) ⌝ }
-{
+    let whole = Target {
+        begin: Octet(0),
+        wider: Octet(0),
+    };
+    let k = n.0;
     if k == 0 {
-        return Octet(0);
+        return whole;
     }
-    let n = count_targets(s).0;
-    if n <= k {
-        return Octet(s.len());
+    if 8 <= k {
+        return whole;
     }
-    find_last(s, Labels(n - k))
+    let before = k - 1;
+    Target {
+        begin: t.begins[before],
+        wider: t.begins[k],
+    }
 }
 
 // A place in a text, at most its end.

@@ -1,2 +1,3 @@
 -- How the code answers.
 pub mod Checking
+pub mod Scanning

@@ -1,11 +1,13 @@
 // The domain rule.
 ghost use mathlib.Core.Path.{_≡_};
-ghost use Rattle.domain.specs.Domain.{good-label, is-domain};
-ghost use Rattle.domain_rule.specs.code.Checking.{checked};
-ghost use mathlib.Core.Bool.{not};
+ghost use mathlib.Core.Bool.{true, not};
+ghost use Prim.Native.Nat.{_<_, _≤_};
 ghost use lib.Dec.{eqb};
 ghost use lib.ListN.{length};
-ghost use Rattle.octets.specs.Octets.{front};
+ghost use Rattle.octets.specs.Octets.{all, front};
+ghost use Rattle.domain.specs.Domain.{labels, good-label, is-domain, label-count};
+ghost use Rattle.domain_rule.specs.code.Checking.{checked};
+ghost use Rattle.domain_rule.specs.code.Scanning.{Classes, some-label, short-label};
 use domain::Labels;
 use domain::Octet;
 use text_class::Class;
@@ -14,6 +16,83 @@ use text_class::Class;
 pub enum Checked {
     Good(Labels),
     Bad(Octet),
+}
+
+// The class of each octet in a domain, 16 to a row: 0 in a label, 1 a dot, 2 another.
+const CLASSES: [u8; 256] = *b"\
+    \x02\x02\x02\x02\x02\x02\x02\x02\x02\x02\x02\x02\x02\x02\x02\x02\
+    \x02\x02\x02\x02\x02\x02\x02\x02\x02\x02\x02\x02\x02\x02\x02\x02\
+    \x02\x02\x02\x02\x02\x02\x02\x02\x02\x02\x02\x02\x02\x00\x01\x02\
+    \x00\x00\x00\x00\x00\x00\x00\x00\x00\x00\x02\x02\x02\x02\x02\x02\
+    \x02\x00\x00\x00\x00\x00\x00\x00\x00\x00\x00\x00\x00\x00\x00\x00\
+    \x00\x00\x00\x00\x00\x00\x00\x00\x00\x00\x00\x02\x02\x02\x02\x00\
+    \x02\x00\x00\x00\x00\x00\x00\x00\x00\x00\x00\x00\x00\x00\x00\x00\
+    \x00\x00\x00\x00\x00\x00\x00\x00\x00\x00\x00\x02\x02\x02\x02\x02\
+    \x02\x02\x02\x02\x02\x02\x02\x02\x02\x02\x02\x02\x02\x02\x02\x02\
+    \x02\x02\x02\x02\x02\x02\x02\x02\x02\x02\x02\x02\x02\x02\x02\x02\
+    \x02\x02\x02\x02\x02\x02\x02\x02\x02\x02\x02\x02\x02\x02\x02\x02\
+    \x02\x02\x02\x02\x02\x02\x02\x02\x02\x02\x02\x02\x02\x02\x02\x02\
+    \x02\x02\x02\x02\x02\x02\x02\x02\x02\x02\x02\x02\x02\x02\x02\x02\
+    \x02\x02\x02\x02\x02\x02\x02\x02\x02\x02\x02\x02\x02\x02\x02\x02\
+    \x02\x02\x02\x02\x02\x02\x02\x02\x02\x02\x02\x02\x02\x02\x02\x02\
+    \x02\x02\x02\x02\x02\x02\x02\x02\x02\x02\x02\x02\x02\x02\x02\x02";
+
+// What one pass over a text finds: 0 if nothing is wrong, and then the number of labels.
+struct Scanned {
+    wrong: usize,
+    labels: usize,
+}
+
+// An octet as a number.
+fn wide(x: u8) -> usize
+    ensures { λ r. ⌜ (r ≡ x) × (r < 256) ⌝ }
+{
+    x as usize
+}
+
+// Whether an octet is wrong or a label empty, from the end on, with no branch for each octet.
+fn scan(s: &[u8], classes: &[u8; 256]) -> Scanned
+    requires { ⌜ Classes (now classes) × (length (now s) ≤ 253) ⌝ }
+    ensures { λ r. ⌜ (r .wrong ≡ 0 → (all some-label (labels (now (s .entry))) ≡ true) × (r .labels ≡ label-count (now (s .entry)))) ⌝ }
+{
+    let mut wrong = 0;
+    let mut dots = 0;
+    let mut after = 1;
+    let mut i = s.len();
+    while 0 < i {
+        let class = wide(classes[wide(s[i - 1])]);
+        wrong = wrong + (class + after) / 2;
+        dots = dots + class;
+        after = class;
+        i = i - 1;
+    }
+    Scanned {
+        wrong: wrong + after,
+        labels: dots + 1,
+    }
+}
+
+// Whether no label is of more than 63 octets; a text that is no longer needs no look.
+fn is_short(s: &[u8]) -> bool
+    requires { ⌜ length (now s) ≤ 253 ⌝ }
+    ensures { λ r. ⌜ (r ≡ true → all short-label (labels (now (s .entry))) ≡ true) ⌝ }
+{
+    if s.len() <= 63 {
+        return true;
+    }
+    let mut over: usize = 0;
+    let mut run: usize = 0;
+    let mut i = s.len();
+    while 0 < i {
+        if s[i - 1] == b'.' {
+            run = 0;
+        } else {
+            run = run + 1;
+        }
+        over = over + run / 64;
+        i = i - 1;
+    }
+    over == 0
 }
 
 // Whether a label is of 1 to 63 letters, digits, - and _.
@@ -30,8 +109,8 @@ fn first_label(s: &[u8]) -> usize
     text_front::find_octet(s, b'.')
 }
 
-// The domain rule.
-pub fn check(s: &[u8]) -> Checked
+// The domain rule, label by label.
+fn check_labels(s: &[u8]) -> Checked
     ensures { λ r. ⌜ r ≡ checked (now (s .entry)) ⌝ }
 {
     let mut begin = 0;
@@ -52,6 +131,24 @@ pub fn check(s: &[u8]) -> Checked
         return Checked::Bad(Octet(253));
     }
     Checked::Good(Labels(labels))
+}
+
+// The domain rule, by its table. A text that breaks it is gone through again, for the place.
+pub fn check(s: &[u8]) -> Checked
+    ensures { λ r. ⌜ r ≡ checked (now (s .entry)) ⌝ }
+{
+    if 253 < s.len() {
+        return check_labels(s);
+    }
+    let classes = CLASSES;
+    let scanned = scan(s, &classes);
+    if 0 < scanned.wrong {
+        return check_labels(s);
+    }
+    if !is_short(s) {
+        return check_labels(s);
+    }
+    Checked::Good(Labels(scanned.labels))
 }
 
 // Whether a text keeps the domain rule.

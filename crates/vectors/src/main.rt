@@ -3,6 +3,7 @@ use cases::bodies;
 use cases::input;
 use cases::input::Case;
 use cases::lines;
+use domain_labels::Starts;
 use reporting::Method;
 use txt::Status;
 
@@ -105,6 +106,30 @@ fn run_field(body: &[u8], memory: &mut [u8]) -> bool {
     true
 }
 
+// Where the last 1, 2, .. 8 labels of a domain begin, which ends a line.
+fn print_begins(starts: Starts) {
+    lines::print_number(starts.begins[0].0);
+    let mut n = 1;
+    while n < 8 {
+        lines::print(b",");
+        lines::print_number(starts.begins[n].0);
+        n = n + 1;
+    }
+    lines::print(b"\n");
+}
+
+// A domain: how many labels it has, the rounds of the pass that counts them, and where the last of them begin.
+fn run_labels(body: &[u8]) -> bool {
+    let starts = domain_labels::find_starts(body);
+    lines::print(b"labels=");
+    lines::print_number(starts.labels.0);
+    lines::print(b" rounds=");
+    lines::print_number(starts.rounds);
+    lines::print(b" begins=");
+    print_begins(starts);
+    true
+}
+
 // A case of its kind. Whether it could be read.
 fn run_case(kind: u8, body: &[u8], memory: &mut [u8]) -> bool {
     match kind {
@@ -112,6 +137,7 @@ fn run_case(kind: u8, body: &[u8], memory: &mut [u8]) -> bool {
         b'A' => run_answer(body, memory),
         b'F' => run_name(body, memory),
         b'I' => run_field(body, memory),
+        b'L' => run_labels(body),
         _ => lines::refuse_case(),
     }
 }

@@ -10,9 +10,8 @@ use lib.ListN.{length, drop}
 use lib.Seq.{drop-drop}
 use borrow.Author.Tests.{ltb-true, eqb-true, eqb-false}
 use Rattle.octets.specs.Octets.{if_then_else_}
-use Rattle.domain.specs.Domain.{Domain, label-count, last-labels, down-from, targets}
-use Rattle.domain.specs.Domain.{begin-of}
-use Rattle.domain.proofs.DomainLaws.{label-count-positive, count-at-dot, count-at-other, count-at-end, last-labels-end, last-all, last-count}
+use Rattle.domain.specs.Domain.{Domain, label-count, last-labels, begin-of, down-from, targets}
+use Rattle.domain.proofs.DomainLaws.{label-count-positive, count-at-dot, count-at-other, last-labels-end, last-all, last-count}
 use Rattle.walk_follow.specs.code.Turns.{one-more}
 
 -- ------------------------------------------------------------------ labels counted
@@ -24,10 +23,6 @@ label-more x d = go (eqb x 46) refl
     go : (t : Bool) → eqb x 46 ≡ t → (label-count d ≤ label-count (x ∷ d)) × (label-count (x ∷ d) ≤ suc (label-count d))
     go true e = omega (arith, count-at-dot (x ∷ d) 0 1 refl (omega arith) (eqb-true x 46 e))
     go false e = omega (arith, count-at-other (x ∷ d) 0 1 refl (omega arith) (eqb-false x 46 e))
-
-pub labels-bound : (d : Domain) → label-count d ≤ length d + 1
-labels-bound [] = omega (arith, count-at-end [] 0 (omega arith))
-labels-bound (x ∷ d) = omega (arith, labels-bound d, label-more x d)
 
 -- an end has no more labels
 labels-fewer : (k : ℕ) (d : Domain) → label-count (drop k d) ≤ label-count d

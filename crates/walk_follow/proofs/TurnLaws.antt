@@ -6,16 +6,16 @@ use mathlib.Core.Option.{Option, none as nothing, some as just}
 use Prim.Native.Nat.{ℕ, suc, _+_, _-_, _≤_, _<_, min}
 use native.Mathlib.Omega.{arith}
 use lib.Dec.{eqb}
-use lib.ListN.{length, drop, getD, length-drop, drop-of-length-le}
+use lib.ListN.{length, drop, length-drop, drop-of-length-le}
 use lib.Seq.{drop-cons}
 use borrow.Author.Tests.{eqb-true, eqb-false}
-use Rattle.octets.specs.Octets.{same, part-of}
+use Rattle.octets.specs.Octets.{same}
 use Rattle.octets.proofs.TextLaws.{same-self, same-uneven}
-use Rattle.octets.proofs.PartLaws.{part-rest}
 use Rattle.lookup.specs.Lookup.{Name, Standing, has, run}
 use Rattle.lookup.proofs.RunLaws.{onward, run-bind}
-use Rattle.domain.specs.Domain.{Domain, label-count, last-labels, targets}
-use Rattle.domain.specs.Domain.{begin-of}
+use Rattle.domain.specs.Domain.{Domain, label-count, targets}
+use Rattle.domain_labels.specs.code.Places.{target-of, Finds}
+use Rattle.domain_labels.specs.declared.Target.{Target}
 use Rattle.domain.proofs.DomainLaws.{last-labels-end}
 use Rattle.octets.proofs.PartLaws.{clipped}
 use Rattle.domain.proofs.WalkLaws.{walk-targets}
@@ -25,7 +25,7 @@ use Rattle.txt.specs.declared.Reply.{Reply}
 use Rattle.walk.specs.Walk.{record-at, Found, found}
 use Rattle.walk_follow.specs.code.Summary.{Summary, or-found, summarized}
 use Rattle.walk_look.specs.code.Kept.{looked-standing}
-use Rattle.walk_follow.specs.code.Turns.{if-at, last-summary, one-more, suffix-summary, by-found, by-reply, summarized-from, turn-standing}
+use Rattle.walk_follow.specs.code.Turns.{if-at, last-summary, one-more, suffix-summary, by-found, by-reply, summarized-from, turn-standing, Widens}
 use Rattle.walk_look.specs.declared.Looked.{Looked}
 use Rattle.walk_follow.specs.declared.Visited.{Visited}
 use Rattle.walk_follow.proofs.SummaryLaws.{summarized-last}
@@ -51,15 +51,11 @@ module _ (d : Domain) (at : ℕ) (last : Option Found) (s : Settings) (t : Bool)
   suffix-at-start g = rw (← e, g)
 
   -- and elsewhere: the organizational domain begins where the code finds it
-  module _ (piece : Domain) (p : piece ≡ part-of d at (length d)) (n begin : ℕ) (f : n ≡ label-count piece) (b : begin ≡ begin-of (last-labels (n + 1) d) d) where
-    begins-one-more : drop begin d ≡ one-more d (drop at d)
-    unfolding one-more
-    begins-one-more = rw (b, ← part-rest d at, ← p, ← f) (sym (last-labels-end (n + 1) d))
-
+  module _ (begin : ℕ) (wide : drop begin d ≡ one-more d (drop at d)) where
     pub suffix-above : t ≡ false → (chosen : Option Found) → chosen ≡ or-found (if-at (drop begin d) last) (just (found (drop at d) s))
         → record { organization = drop begin d; applicable = chosen } ≡ suffix-summary d last (found (drop at d) s)
     unfolding suffix-summary
-    suffix-above g chosen h = rw (← e, g, h, begins-one-more)
+    suffix-above g chosen h = rw (← e, g, h, wide)
 
 -- ------------------------------------------------------------------ one target
 
@@ -78,24 +74,38 @@ module _ (κ : Name → Option Reply) (d : Domain) (ds : List Domain) (at : ℕ)
 
 -- ------------------------------------------------------------------ all targets
 
--- before the first
-pub none-visited : (κ : Name → Option Reply) (d : Domain) (n : ℕ) → run κ (summarized d) ≡ run κ (summarized-from d nothing (drop (n - n) (targets d)))
-none-visited κ d n = let e : n - n ≡ 0 = omega arith in rw (e, summarized-last d)
+-- the targets of a walk that has this many labels left
+unfoldable pub from-target : ℕ → Domain → List Domain
+from-target left d = drop (length (targets d) - left) (targets d)
 
-module _ (κ : Name → Option Reply) (d : Domain) (last : Option Found) (n left : ℕ) (e : n ≡ length (targets d)) where
+-- before the first
+pub none-visited : (κ : Name → Option Reply) (d : Domain) (n : ℕ) → n ≡ length (targets d) → run κ (summarized d) ≡ run κ (summarized-from d nothing (from-target n d))
+unfolding from-target
+none-visited κ d n f = let e : length (targets d) - n ≡ 0 = omega arith in rw (e, summarized-last d)
+
+module _ (κ : Name → Option Reply) (d : Domain) (last : Option Found) (left : ℕ) where
   -- after the last
-  pub all-visited : left ≤ 0 → run κ (summarized-from d last (drop (n - left) (targets d))) ≡ has (just (last-summary d last))
-  unfolding summarized-from run
-  all-visited h = rw (drop-of-length-le (targets d) {i = n - left} (omega arith))
+  pub all-visited : left ≤ 0 → run κ (summarized-from d last (from-target left d)) ≡ has (just (last-summary d last))
+  unfolding summarized-from run from-target
+  all-visited h = rw (drop-of-length-le (targets d) {i = length (targets d) - left} (omega arith))
 
   -- the next one
-  module _ (z : 0 < left) (h : left ≤ n) (at : ℕ) (p : at ≡ begin-of (getD (targets d) (n - left) []) d) where
-    next-target : drop (n - left) (targets d) ≡ drop at d ∷ drop (n - (left - 1)) (targets d)
-    next-target =
-        let place : n - (left - 1) ≡ suc (n - left) = omega arith in
-        rw (place, drop-cons (targets d) (n - left) [] (omega arith), p, ← walk-targets d .ends (n - left))
+  module _ (z : 0 < left) (h : left ≤ length (targets d)) (at : Target) (p : Finds d (target-of left d) at) where
+    found-here : drop (at .begin .0) d ≡ target-of left d
+    unfolding target-of
+    found-here = rw (p .here, ← walk-targets d .ends (length (targets d) - left))
 
-    pub turned : run κ (summarized d) ≡ run κ (summarized-from d last (drop (n - left) (targets d)))
-        → (t : Visited) → ((ds : List Domain) → turn-standing κ d ds t ≡ run κ (summarized-from d last (drop at d ∷ ds)))
-        → run κ (summarized d) ≡ turn-standing κ d (drop (n - (left - 1)) (targets d)) t
-    turned i t f = i ∙ rw next-target (sym (f (drop (n - (left - 1)) (targets d))))
+    found-wider : Widens d at
+    unfolding one-more
+    found-wider = rw (found-here, p .wider) (sym (last-labels-end (label-count (target-of left d) + 1) d))
+
+    next-target : from-target left d ≡ drop (at .begin .0) d ∷ from-target (left - 1) d
+    unfolding from-target target-of
+    next-target =
+        let place : length (targets d) - (left - 1) ≡ suc (length (targets d) - left) = omega arith in
+        rw (place, found-here, drop-cons (targets d) (length (targets d) - left) [] (omega arith))
+
+    pub turned : run κ (summarized d) ≡ run κ (summarized-from d last (from-target left d))
+        → (t : Visited) → (Widens d at → (ds : List Domain) → turn-standing κ d ds t ≡ run κ (summarized-from d last (drop (at .begin .0) d ∷ ds)))
+        → run κ (summarized d) ≡ turn-standing κ d (from-target (left - 1) d) t
+    turned i t f = i ∙ rw next-target (sym (f found-wider (from-target (left - 1) d)))

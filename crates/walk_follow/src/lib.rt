@@ -8,9 +8,10 @@ ghost use Rattle.domain.specs.Domain.{Domain};
 ghost use Rattle.walk.specs.Walk.{found};
 ghost use Rattle.walk_look.specs.code.Kept.{known};
 ghost use Rattle.walk_follow.specs.code.Summary.{summarized, or-found, found-in, ending-standing};
-ghost use Rattle.walk_follow.specs.code.Turns.{if-at, last-summary, suffix-summary, Judges, Visits};
+ghost use Rattle.walk_follow.specs.code.Turns.{if-at, last-summary, suffix-summary, Widens, Judges, Visits};
 use domain::Labels;
 use domain::Octet;
+use domain_labels::Target;
 use policy::Psd;
 use policy::Settings;
 use txt::Reply;
@@ -78,36 +79,31 @@ fn choose(d: &[u8], at: Octet, last: Applicable, other: Applicable) -> Applicabl
 }
 
 // The end of a walk at a psd=y record.
-fn finish_suffix(d: &[u8], at: Octet, last: Applicable, settings: Settings) -> Ending
-    ensures { λ r. ⌜ ending-standing (now (d .entry)) r ≡ has (some (suffix-summary (now (d .entry)) (found-in (now (d .entry)) last) (found (drop (at .0) (now (d .entry))) settings))) ⌝ }
+fn finish_suffix(d: &[u8], at: Target, last: Applicable, settings: Settings) -> Ending
+    ensures { λ r. ⌜ (Widens (now (d .entry)) at → ending-standing (now (d .entry)) r ≡ has (some (suffix-summary (now (d .entry)) (found-in (now (d .entry)) last) (found (drop (at .begin .0) (now (d .entry))) settings)))) ⌝ }
 {
-    let record = Applicable::Record {
-        begin: at,
-        settings,
-    };
-    if same_end(d, at, Octet(0)) {
+    let begin = at.begin;
+    let record = Applicable::Record { begin, settings };
+    if same_end(d, begin, Octet(0)) {
         return finish(record);
     }
-    let n = domain_labels::count_labels(text_parts::part(d, at.0, d.len()));
-    let begin = domain_labels::find_last(d, Labels(n.0 + 1));
+    let wider = at.wider;
     Ending::Done(Organization {
-        begin,
-        applicable: choose(d, begin, last, record),
+        begin: wider,
+        applicable: choose(d, wider, last, record),
     })
 }
 
 // A walk after a reply at a target.
-fn judge(d: &[u8], at: Octet, last: Applicable, r: Reply) -> Visited
+fn judge(d: &[u8], at: Target, last: Applicable, r: Reply) -> Visited
     ensures { λ t. ⌜ Judges (now (d .entry)) at last r t ⌝ }
 {
     match r {
         Reply::Error => Visited::End(Ending::Failed),
         Reply::NoRecord => Visited::On(last),
         Reply::Record(settings) => {
-            let record = Applicable::Record {
-                begin: at,
-                settings,
-            };
+            let begin = at.begin;
+            let record = Applicable::Record { begin, settings };
             let end = finish(record);
             let psd = settings.psd;
             match psd {
@@ -125,13 +121,14 @@ fn visit<'a>(
     kept: &'a [usize],
     count: usize,
     d: &'a [u8],
-    at: Octet,
+    at: Target,
     last: Applicable,
 ) -> Visited
     ensures { λ t. ⌜ Visits (known (now (domains .entry)) count (now (kept .entry))) (now (d .entry)) at last t ⌝ }
 {
-    match walk_look::look_at(domains, kept, count, d, at) {
-        Looked::Missing => Visited::End(Ending::Missing(at)),
+    let begin = at.begin;
+    match walk_look::look_at(domains, kept, count, d, begin) {
+        Looked::Missing => Visited::End(Ending::Missing(begin)),
         Looked::Known(r) => judge(d, at, last, r),
     }
 }
@@ -140,11 +137,11 @@ fn visit<'a>(
 pub fn follow<'a>(domains: &'a [u8], kept: &'a [usize], count: usize, d: &'a [u8]) -> Ending
     ensures { λ r. ⌜ ending-standing (now (d .entry)) r ≡ run (known (now (domains .entry)) count (now (kept .entry))) (summarized (now (d .entry))) ⌝ }
 {
-    let n = domain_labels::count_targets(d);
+    let starts = domain_labels::find_starts(d);
     let mut last = Applicable::Nothing;
-    let mut left = n;
+    let mut left = domain_labels::count_targets(starts);
     while 0 < left.0 {
-        let at = domain_labels::find_target(d, n.0 - left.0);
+        let at = domain_labels::find_target(starts, left);
         match visit(domains, kept, count, d, at, last) {
             Visited::End(e) => {
                 return e;

@@ -2,6 +2,7 @@
 
 use sheets::generate::{filled, ordinary, SheetKind};
 use sheets::programs::messages;
+use sheets::walk_sheets::{self, WalkSheet};
 
 /// A sheet, and where it comes from.
 pub struct Case {
@@ -24,6 +25,15 @@ pub fn written() -> Result<Vec<Case>, String> {
         sheet: message.sheet,
     };
     Ok(messages::messages()?.into_iter().map(case).collect())
+}
+
+/// Walks from domains of few and of many labels.
+pub fn walks() -> Result<Vec<Case>, String> {
+    let case = |own: WalkSheet| Case {
+        origin: own.name,
+        sheet: own.sheet,
+    };
+    Ok(walk_sheets::sheets()?.into_iter().map(case).collect())
 }
 
 /// Sheets of 65,536 octets and more.

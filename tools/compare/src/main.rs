@@ -52,11 +52,12 @@ struct Asked {
     seed: u64,
 }
 
-/// Sheets written by hand, long ones, and the generated ones.
+/// Sheets written by hand, those of walks, long ones, and the generated ones.
 fn all_cases(asked: &Asked) -> Result<impl Iterator<Item = Case>, String> {
     let ordinary = cases::generated(SheetKind::Ordinary, asked.seed, asked.ordinary);
     let hostile = cases::generated(SheetKind::Hostile, asked.seed, asked.hostile);
-    let given = cases::written()?.into_iter().chain(cases::long(asked.seed));
+    let by_hand = cases::written()?.into_iter().chain(cases::walks()?);
+    let given = by_hand.chain(cases::long(asked.seed));
     Ok(given.chain(ordinary).chain(hostile))
 }
 

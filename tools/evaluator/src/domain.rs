@@ -1,4 +1,5 @@
-//! The domain rule, labels, walk targets and asked names.
+//! The domain rule, labels and where the last of them begin, walk targets and
+//! asked names.
 
 /// "domain: 253 octets"
 pub const MOST_OCTETS: usize = 253;
@@ -8,6 +9,9 @@ pub const MOST_LABEL_OCTETS: usize = 63;
 pub const MOST_TARGET_OCTETS: usize = 246;
 /// "the whole asked name, `_dmarc.` included"
 pub const PREFIX: &[u8] = b"_dmarc.";
+/// "for every n a walk needs": 7 for its targets, 8 for the organizational
+/// domain of a psd=y record at the last 7.
+pub const MOST_LAST_LABELS: usize = 8;
 
 /// A domain that keeps the rule, in lower case ("ASCII case never matters").
 #[derive(Clone, Debug, PartialEq, Eq)]
@@ -32,6 +36,35 @@ pub fn fault(text: &[u8]) -> Option<usize> {
 fn good_label(label: &[u8]) -> bool {
     let good = |octet: &u8| octet.is_ascii_alphanumeric() || *octet == b'-' || *octet == b'_';
     !label.is_empty() && label.len() <= MOST_LABEL_OCTETS && label.iter().all(good)
+}
+
+/// What one pass over a domain finds (Ask 3 of document 02).
+#[derive(Clone, Copy, Debug, PartialEq, Eq)]
+pub struct LabelPass {
+    pub labels: usize,
+    /// The rounds of the pass: one for each octet.
+    pub rounds: usize,
+    /// Where the last 1, 2, ... labels begin; 0 where there are no more labels.
+    pub begins: [usize; MOST_LAST_LABELS],
+}
+
+/// Counts the labels of a domain that keeps the rule. Each dot begins a new
+/// last label, and what were the last n labels are now the last n + 1.
+pub fn label_pass(domain: &[u8]) -> LabelPass {
+    let mut pass = LabelPass {
+        labels: 1,
+        rounds: 0,
+        begins: [0; MOST_LAST_LABELS],
+    };
+    for octet in domain {
+        pass.rounds += 1;
+        if *octet == b'.' {
+            pass.labels += 1;
+            pass.begins.rotate_right(1);
+            pass.begins[0] = pass.rounds;
+        }
+    }
+    pass
 }
 
 impl Domain {

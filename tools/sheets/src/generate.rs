@@ -1,6 +1,6 @@
 //! Seeded sheets: ordinary ones that mostly reach a verdict, and hostile ones.
 
-mod domains;
+pub(crate) mod domains;
 mod draft;
 mod fill;
 mod hostile;

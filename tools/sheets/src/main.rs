@@ -36,7 +36,7 @@ fn main() -> ExitCode {
         ["sheets", kind, seed, count, dir] => write_sheets(kind, seed, count, dir),
         ["tally", kind, seed, count] => tallied(kind, seed, count),
         ["marked"] => marked(),
-        ["vectors", cases, expected] => write_cases([cases, expected], vectors::files(), "PAFI"),
+        ["vectors", cases, expected] => write_cases([cases, expected], vectors::files(), "PAFIL"),
         ["calls", cases, expected] => write_cases([cases, expected], calls::files(), "SNARFD"),
         ["timing", count, dir] => write_timing(count, dir),
         ["messages", cases, expected] => write_cases([cases, expected], messages::files(), "M"),

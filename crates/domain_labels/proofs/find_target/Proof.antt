@@ -1,36 +1,49 @@
 -- `domain_labels::find_target` meets its contract.
 use mathlib.Core.Path.{refl}
+use Prim.Native.Nat.{_-_}
 use native.Mathlib.Omega.{arith}
 use borrow.Author.Needs.{needs}
-use Rattle.domain.proofs.DomainLaws.{begins, begin-none, target-first, target-next}
+use Rattle.domain_labels.specs.code.Places.{place-at}
+use Rattle.domain_labels.proofs.StartLaws.{finds-last, finds-whole}
 use Rattle.domain_labels.proofs.find_target.Statement.{statement}
 use Rattle.domain_labels.proofs.find_target.Tie as tie
 
 returns : tie.Need-returns
-returns c =
-    let s = c .before .before .args .s .now in
-    rw (c .if1 .taken, target-first s) (begins s s 0 (omega arith) refl)
-
-count-targets-requires : tie.Need-count-targets-requires
-count-targets-requires c κs = search needs
+returns c = search needs
 
 returns-2 : tie.Need-returns-2
-returns-2 c =
-    let a = c .before .before .before .before .args in
-    rw (target-next (a .s .now) (a .k) (omega arith)) (begin-none (a .s .now) _ (omega (arith, c .before .count-targets .ensures)))
+returns-2 c = λ d p z h. finds-whole d (c .before .before .args .n .0) z h (c .if2 .taken)
 
-sub-t7 : tie.Need-sub-t7
-sub-t7 c = search needs
+sub-before : tie.Need-sub-before
+sub-before c = search needs
 
-find-last-requires : tie.Need-find-last-requires
-find-last-requires c κs = search needs
+mul-t10 : tie.Need-mul-t10
+mul-t10 c = search needs
+
+element-copy-out-t7 : tie.Need-element-copy-out-t7
+element-copy-out-t7 c = search needs
+
+mul-t13 : tie.Need-mul-t13
+mul-t13 c = search needs
+
+element-copy-out-t8 : tie.Need-element-copy-out-t8
+element-copy-out-t8 c = search needs
 
 returns-3 : tie.Need-returns-3
-returns-3 c =
-    let a = c .before .before .before .before .before .args in
-    rw (target-next (a .s .now) (a .k) (omega arith), ← c .before .before .count-targets .ensures) (c .find-last .ensures)
+unfolding place-at
+returns-3 c = λ d p z h.
+    let a = c .before .before .before .before .args in
+    finds-last d (a .n .0) z h (a .t1) p (omega arith) (a .n .0 - 1) (a .n .0) refl refl
 
 pub find-target-spec : {M : Type 1} → statement M
 find-target-spec =
     tie.close
-    (tie.spec returns count-targets-requires returns-2 sub-t7 find-last-requires returns-3)
+    (tie.spec
+    returns
+    returns-2
+    sub-before
+    mul-t10
+    element-copy-out-t7
+    mul-t13
+    element-copy-out-t8
+    returns-3)

@@ -34,32 +34,32 @@ enum-told-5 c = search needs
 
 returns : tie.Need-returns
 unfolding run ending-standing by-reply turn-standing
-returns c = λ κ ds. rw (c .enum-told .given .1)
+returns c = λ wide κ ds. rw (c .enum-told .given .1)
 
 returns-2 : tie.Need-returns-2
 unfolding by-reply turn-standing
-returns-2 c = λ κ ds. rw (c .enum-told2 .given .1)
+returns-2 c = λ wide κ ds. rw (c .enum-told2 .given .1)
 
 returns-3 : tie.Need-returns-3
 unfolding run found-in by-found turn-standing
-returns-3 c = λ κ ds.
-    let b = c .before .before .before .before .before in
+returns-3 c = λ wide κ ds.
+    let b = c .before .before .before .before .before .before in
     let a = b .before .before .before .args in
-    rw (b .r .given .1) (judged κ (a .d .now) ds (a .at .0) (found-in (a .d .now) (a .last)) (b .r .given .0 .0) (c .before .enum-told3 .given .1) _ (c .finish-suffix .ensures))
+    rw (b .r .given .1) (judged κ (a .d .now) ds (a .at .begin .0) (found-in (a .d .now) (a .last)) (b .r .given .0 .0) (c .before .enum-told3 .given .1) _ (c .finish-suffix .ensures wide))
 
 returns-4 : tie.Need-returns-4
 unfolding run found-in by-found turn-standing
-returns-4 c = λ κ ds.
-    let b = c .before .before .before .before in
+returns-4 c = λ wide κ ds.
+    let b = c .before .before .before .before .before in
     let a = b .before .before .before .args in
-    rw (b .r .given .1) (judged κ (a .d .now) ds (a .at .0) (found-in (a .d .now) (a .last)) (b .r .given .0 .0) (c .enum-told4 .given .1) _ (c .before .before .finish .ensures (a .d .now)))
+    rw (b .r .given .1) (judged κ (a .d .now) ds (a .at .begin .0) (found-in (a .d .now) (a .last)) (b .r .given .0 .0) (c .enum-told4 .given .1) _ (c .before .before .finish .ensures (a .d .now)))
 
 returns-5 : tie.Need-returns-5
 unfolding run found-in by-found turn-standing
-returns-5 c = λ κ ds.
-    let b = c .before .before .before .before in
+returns-5 c = λ wide κ ds.
+    let b = c .before .before .before .before .before in
     let a = b .before .before .before .args in
-    rw (b .r .given .1) (judged κ (a .d .now) ds (a .at .0) (found-in (a .d .now) (a .last)) (b .r .given .0 .0) (c .enum-told5 .given .1) _ refl)
+    rw (b .r .given .1) (judged κ (a .d .now) ds (a .at .begin .0) (found-in (a .d .now) (a .last)) (b .r .given .0 .0) (c .enum-told5 .given .1) _ refl)
 
 pub judge-spec : {M : Type 1} → statement M
 judge-spec =

@@ -22,18 +22,18 @@ judge-requires c κs = search needs
 
 returns : tie.Need-returns
 unfolding onward looked-standing ending-standing turn-standing
-returns c = λ ds.
-    let a = c .before .before .before .before .before .before .args in
+returns c = λ wide ds.
+    let a = c .before .before .before .before .before .before .before .args in
     let κ = known (a .domains .now) (a .count) (a .kept .now) in
-    rw (visited κ (a .d .now) ds (a .at .0) (found-in (a .d .now) (a .last)) (c .before .before .look-at .result) (c .before .before .look-at .ensures), c .enum-told .given .1)
+    rw (visited κ (a .d .now) ds (a .at .begin .0) (found-in (a .d .now) (a .last)) (c .before .before .look-at .result) (c .before .before .look-at .ensures), c .enum-told .given .1)
 
 returns-2 : tie.Need-returns-2
 unfolding onward looked-standing
-returns-2 c = λ ds.
+returns-2 c = λ wide ds.
     let b = c .before .before .before .before in
-    let a = b .before .before .before .before .args in
+    let a = b .before .before .before .before .before .args in
     let κ = known (a .domains .now) (a .count) (a .kept .now) in
-    rw (visited κ (a .d .now) ds (a .at .0) (found-in (a .d .now) (a .last)) (b .look-at .result) (b .look-at .ensures), c .before .before .r .given .1) (c .judge .ensures κ ds)
+    rw (visited κ (a .d .now) ds (a .at .begin .0) (found-in (a .d .now) (a .last)) (b .look-at .result) (b .look-at .ensures), c .before .before .r .given .1) (c .judge .ensures wide κ ds)
 
 pub visit-spec : {M : Type 1} → statement M
 visit-spec =

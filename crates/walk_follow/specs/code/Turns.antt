@@ -6,8 +6,8 @@ use Prim.Native.Nat.{_+_}
 use lib.ListN.{drop}
 use Rattle.octets.specs.Octets.{same, if_then_else_}
 use Rattle.lookup.specs.Lookup.{Lookups, done, _>>=_, Name, Standing, run}
-use Rattle.domain.specs.declared.Octet.{Octet}
 use Rattle.domain.specs.Domain.{Domain, label-count, last-labels}
+use Rattle.domain_labels.specs.declared.Target.{Target}
 use Rattle.policy.specs.declared.Psd.{Psd}
 use Rattle.txt.specs.declared.Reply.{Reply}
 use Rattle.walk.specs.Walk.{record-at, Found, found}
@@ -62,10 +62,14 @@ unfoldable pub turn-standing : (Name → Option Reply) → Domain → List Domai
 turn-standing κ d ds (Visited.End e) = ending-standing d e
 turn-standing κ d ds (Visited.On last) = run κ (summarized-from d (found-in d last) ds)
 
--- the promise of a turn at a reply to the target that begins at a place, whatever targets follow
-abbrev pub Judges : (d : Domain) → (at : Octet) → (last : Applicable) → Reply → Visited → Type 0
-Judges d at last r t = (κ : Name → Option Reply) (ds : List Domain) → turn-standing κ d ds t ≡ run κ (by-reply d (found-in d last) (drop (at .0) d) (λ l. summarized-from d l ds) r)
+-- a target that says where it begins with one more label of the start
+abbrev pub Widens : (d : Domain) → Target → Type 0
+Widens d at = drop (at .wider .0) d ≡ one-more d (drop (at .begin .0) d)
+
+-- the promise of a turn at a reply to a target, whatever targets follow
+abbrev pub Judges : (d : Domain) → (at : Target) → (last : Applicable) → Reply → Visited → Type 0
+Judges d at last r t = Widens d at → (κ : Name → Option Reply) (ds : List Domain) → turn-standing κ d ds t ≡ run κ (by-reply d (found-in d last) (drop (at .begin .0) d) (λ l. summarized-from d l ds) r)
 
 -- and of a turn at that target
-abbrev pub Visits : (κ : Name → Option Reply) → (d : Domain) → (at : Octet) → (last : Applicable) → Visited → Type 0
-Visits κ d at last t = (ds : List Domain) → turn-standing κ d ds t ≡ run κ (summarized-from d (found-in d last) (drop (at .0) d ∷ ds))
+abbrev pub Visits : (κ : Name → Option Reply) → (d : Domain) → (at : Target) → (last : Applicable) → Visited → Type 0
+Visits κ d at last t = Widens d at → (ds : List Domain) → turn-standing κ d ds t ≡ run κ (summarized-from d (found-in d last) (drop (at .begin .0) d ∷ ds))

@@ -25,7 +25,7 @@ fn words(random: &mut Random, count: usize) -> Vec<u8> {
 }
 
 /// A domain of so many labels and octets, if these can be had together.
-fn of_length(random: &mut Random, labels: usize, octets: usize) -> Vec<u8> {
+pub fn of_length(random: &mut Random, labels: usize, octets: usize) -> Vec<u8> {
     let least = (octets + 1).div_ceil(MOST_LABEL_OCTETS + 1);
     let count = labels.clamp(least.max(1), octets.div_ceil(2).max(1));
     let mut lengths = vec![1; count];

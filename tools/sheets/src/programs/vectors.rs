@@ -12,10 +12,12 @@
 //!   octet; 16-bit output size.
 //! - `I`: dkim given, dkim aligned, spf given, spf aligned, output size, an
 //!   octet each.
+//! - `L`: a domain that keeps the rule.
 
 mod answers;
 mod case;
 mod fields;
+mod labels;
 mod line;
 mod names;
 mod octets;
@@ -26,7 +28,7 @@ use super::cases::Files;
 use case::{Case, FieldCase};
 use line::line;
 
-/// All cases: policy texts, answers, file names, fields.
+/// All cases: policy texts, answers, file names, fields, labels.
 fn cases() -> Vec<Case> {
     let policies = policies::texts().into_iter().chain(repeats::texts());
     let policies = policies.map(Case::Policy);
@@ -34,7 +36,9 @@ fn cases() -> Vec<Case> {
     let names = names::names().into_iter().map(Case::FileName);
     let fields = fields::fields().into_iter();
     let fields = fields.filter(FieldCase::has_method).map(Case::Field);
-    policies.chain(answers).chain(names).chain(fields).collect()
+    let labels = labels::domains().into_iter().map(Case::Labels);
+    let texts = policies.chain(answers);
+    texts.chain(names).chain(fields).chain(labels).collect()
 }
 
 /// The error is of a case some part of which is too long for its length.

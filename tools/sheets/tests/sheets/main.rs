@@ -20,3 +20,4 @@ mod repeats;
 mod script;
 mod timing;
 mod vectors;
+mod walk_sheets;

@@ -5,6 +5,7 @@ use std::collections::BTreeMap;
 
 use crate::octets::tx;
 use crate::stored::{cases, check_stored, Case};
+use evaluator::domain::fault;
 use sheets::programs::vectors::files;
 
 fn vectors() -> Vec<Case> {
@@ -310,6 +311,104 @@ fn fields() {
 }
 
 #[test]
+fn labels() {
+    let vectors = vectors();
+    let table: [(&[u8], &str); 9] = [
+        (b"com", "labels=1 rounds=3 begins=0,0,0,0,0,0,0,0"),
+        (b"EXAMPLE.com", "labels=2 rounds=11 begins=8,0,0,0,0,0,0,0"),
+        (
+            b"_dmarc.example.com",
+            "labels=3 rounds=18 begins=15,7,0,0,0,0,0,0",
+        ),
+        (b"127.0.0.1", "labels=4 rounds=9 begins=8,6,4,0,0,0,0,0"),
+        (
+            b"a.bb.ccc.dddd.eeeee.ffffff.ggggggg",
+            "labels=7 rounds=34 begins=27,20,14,9,5,2,0,0",
+        ),
+        (
+            b"a.bb.ccc.dddd.eeeee.ffffff.ggggggg.hhhhhhhh",
+            "labels=8 rounds=43 begins=35,27,20,14,9,5,2,0",
+        ),
+        (
+            b"-.-.-.-.-.-.-.-.-",
+            "labels=9 rounds=17 begins=16,14,12,10,8,6,4,2",
+        ),
+        (
+            b"0.1.2.3.4.5.6.7.8.9",
+            "labels=10 rounds=19 begins=18,16,14,12,10,8,6,4",
+        ),
+        (
+            b"a.b.c.d.e.f.g.h.i.j.mail.example.com",
+            "labels=13 rounds=36 begins=33,25,20,18,16,14,12,10",
+        ),
+    ];
+    for (body, line) in table {
+        check(&vectors, b'L', body, line);
+    }
+}
+
+/// The labels of a case of kind `L`.
+fn split(body: &[u8]) -> Vec<&[u8]> {
+    body.split(|octet| *octet == b'.').collect()
+}
+
+/// The domains of kind `L`, each of which keeps the rule.
+fn counted_domains() -> Vec<(Vec<u8>, String)> {
+    let counted = vectors().into_iter().filter(|(kind, _, _)| *kind == b'L');
+    let domains: Vec<(Vec<u8>, String)> = counted.map(|(_, body, line)| (body, line)).collect();
+    for (body, _) in &domains {
+        assert_eq!(fault(body), None, "{}", body.escape_ascii());
+    }
+    domains
+}
+
+/// Readings 127 and 128, from the lengths of the labels.
+#[test]
+fn lines_of_labels() {
+    for (body, line) in counted_domains() {
+        let labels = split(&body);
+        let begin = |count: usize| {
+            let before = labels.len().saturating_sub(count);
+            let octets = labels.iter().take(before).map(|label| label.len() + 1);
+            octets.sum::<usize>().to_string()
+        };
+        let begins = (1..=8).map(begin).collect::<Vec<_>>().join(",");
+        let (count, octets) = (labels.len(), body.len());
+        let expected = format!("labels={count} rounds={octets} begins={begins}");
+        assert_eq!(line, expected, "{}", body.escape_ascii());
+    }
+}
+
+#[test]
+fn domains_of_every_shape() {
+    let domains = counted_domains();
+    let there = |what: &dyn Fn(&[u8]) -> bool| domains.iter().filter(|(own, _)| what(own)).count();
+    for labels in 1..=127 {
+        let of_count = |own: &[u8]| split(own).len() == labels;
+        let single = |own: &[u8]| of_count(own) && own.len() == 2 * labels - 1;
+        assert!(there(&single) > 0, "{labels} labels of one octet");
+        let longer = |own: &[u8]| of_count(own) && own.len() > 2 * labels - 1;
+        assert!(labels == 127 || there(&longer) > 0, "{labels} labels");
+    }
+    for octets in [245, 246, 247, 252, 253] {
+        assert!(there(&|own| own.len() == octets) >= 6, "{octets} octets");
+    }
+    assert!(there(&|own| own.len() == 63 && split(own).len() == 1) > 0);
+    let in_turn = |own: &[u8]| {
+        let labels = split(own);
+        let lengths = labels.windows(2).map(|two| (two[0].len(), two[1].len()));
+        labels.len() > 3
+            && lengths
+                .into_iter()
+                .all(|two| [(1, 63), (63, 1)].contains(&two))
+    };
+    assert!(there(&in_turn) >= 4);
+    for octet in (0..128_u8).filter(|octet| fault(&[*octet]).is_none()) {
+        assert!(there(&|own| own.contains(&octet)) > 0, "octet {octet}");
+    }
+}
+
+#[test]
 fn enough_cases_of_each_kind() {
     let mut counts: BTreeMap<u8, usize> = BTreeMap::new();
     for (kind, _, line) in vectors() {
@@ -317,7 +416,7 @@ fn enough_cases_of_each_kind() {
         let printable = |octet: u8| (32..=126).contains(&octet);
         assert!(line.bytes().all(printable), "{line}");
     }
-    let least = [(b'A', 60), (b'F', 30), (b'I', 24), (b'P', 80)];
+    let least = [(b'A', 60), (b'F', 30), (b'I', 24), (b'L', 400), (b'P', 80)];
     assert_eq!(counts.len(), least.len());
     for (kind, least) in least {
         assert!(counts[&kind] >= least, "{} of {kind}", counts[&kind]);

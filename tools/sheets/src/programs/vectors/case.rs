@@ -10,6 +10,8 @@ pub enum Case {
     Answer(AnswerCase),
     FileName(NameCase),
     Field(FieldCase),
+    /// A domain that keeps the rule.
+    Labels(Vec<u8>),
 }
 
 /// An answer for the name now asked, and the size of the lent scratch.
@@ -62,13 +64,14 @@ impl Case {
             Case::Answer(_) => b'A',
             Case::FileName(_) => b'F',
             Case::Field(_) => b'I',
+            Case::Labels(_) => b'L',
         }
     }
 
     /// The case as it stands in CASES.
     pub fn octets(&self) -> Option<Vec<u8>> {
         let body = match self {
-            Case::Policy(text) => text.clone(),
+            Case::Policy(text) | Case::Labels(text) => text.clone(),
             Case::Answer(given) => answer_body(given),
             Case::FileName(given) => name_body(given)?,
             Case::Field(given) => field_body(given),

@@ -6,6 +6,7 @@ use super::case::{AnswerCase, Case, FieldCase, Method, NameCase};
 use crate::programs::cases::{sums, used, written_words, FILL};
 use crate::written::hex;
 use evaluator::book::Book;
+use evaluator::domain::label_pass;
 use evaluator::policy::{self, Mode, Psd, Request, Settings};
 use evaluator::refusal::Refusal;
 use evaluator::report::{self, FileName};
@@ -27,6 +28,7 @@ pub fn line(case: &Case) -> String {
         Case::Answer(given) => answer_line(given),
         Case::FileName(given) => name_line(given),
         Case::Field(given) => field_line(given),
+        Case::Labels(domain) => labels_line(domain),
     }
 }
 
@@ -72,6 +74,15 @@ fn field_line(given: &FieldCase) -> String {
     let mut out = vec![FILL; usize::from(given.size)];
     let words = written_words(field(given, &mut out));
     format!("field {words} out={}:{}", sums(&out), hex(used(&out)))
+}
+
+fn labels_line(domain: &[u8]) -> String {
+    let pass = label_pass(domain);
+    let begins = pass.begins.map(|begin| begin.to_string()).join(",");
+    format!(
+        "labels={} rounds={} begins={begins}",
+        pass.labels, pass.rounds
+    )
 }
 
 /// The field of a message with these identifiers, asked for at its verdict.
