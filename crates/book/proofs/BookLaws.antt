@@ -13,7 +13,7 @@ use Rattle.octets.specs.Refusing.{refusal}
 use Rattle.octets.specs.declared.Refusal.{Refusal}
 use Rattle.octets.specs.declared.Written.{Written}
 use Rattle.octets.specs.Lent.{over, fits, written, left, written-or, left-or}
-use Rattle.lookup.specs.Lookup.{Answers, Name, names, find, member, once, path, list, Standing, needs, has, run-over, Grown, start, grow, Completes}
+use Rattle.lookup.specs.Lookup.{Answers, Name, names, find, member, once, path, value, list, Standing, needs, has, run-over, Grown, start, grow, Completes}
 use Rattle.lookup.specs.Claims.{Distinct, Ends, now, later}
 use Rattle.lookup.proofs.NameLaws.{once-new, once-seen, once-distinct, member-last}
 use Rattle.lookup.proofs.RunLaws.{asked-so-far, names-append, needs-injective, needs-open, find-not-member, needs-prefix, needs-short, has-list, has-value, has≢needs, ends}
@@ -224,6 +224,11 @@ module _ (m : Message) (cs : List Call) where
   unfolding standing b
   stands-at u e = ap (λ x. run-over (b .answers) (separate-walks x)) (sym (message-after m cs)) ∙ e
 
+  -- a verdict is that of separate walks over any completion
+  pub verdict-walked : (v : Verdict) → standing (book-after m cs) ≡ has v → (α : Name → Answer) → Completes α (book-after m cs .answers) → value α (separate-walks m) ≡ v
+  unfolding b
+  verdict-walked v e α agrees = has-value α (book-after m cs .answers) agrees (separate-walks m) v (stands-at (has v) e)
+
   grown-after : Grown (separate-walks m) (b .answers)
   unfolding b
   grown-after = rw (message-after m cs) at (kept-after m cs .grown)
@@ -379,7 +384,7 @@ book-claims m cs = record {
   asked = asked-given m cs;
   each-once = subst Distinct (sym (asked-given m cs)) (once-distinct [] (given-names (transcript book-call (opened m) cs)));
   at-verdict = all-asked m cs;
-  that-verdict = λ v e α agrees. has-value α (book-after m cs .answers) agrees (separate-walks m) v (stands-at m cs (has v) e);
+  that-verdict = verdict-walked m cs;
   counted = count-is m cs;
   bounded = bounded-by m cs;
   each-walk = walk-claims .at-most-eight (λ n. reply (or-error (book-after m cs .answers) n));

@@ -1,8 +1,8 @@
 -- Laws of tests over lists, and over the octets of a text.
-use mathlib.Core.Path.{_≡_, refl, ap₂, _∙_}
+use mathlib.Core.Path.{_≡_, refl, ap, ap₂, _∙_}
 use mathlib.Core.List.{List, [], _∷_, _++_}
 use mathlib.Core.Option.{none as nothing, some as just}
-use mathlib.Core.Bool.{Bool, true, false, _&&_, _||_}
+use mathlib.Core.Bool.{Bool, true, false, _&&_, _||_, or-true, true≢false}
 use Prim.Native.Nat.{ℕ, zero, suc, _+_, _-_, _≤_, _<_}
 use native.Mathlib.Omega.{arith}
 use native.Mathlib.Numerals.{add-one}
@@ -27,6 +27,21 @@ pub any-either : {A : Type 0} (f g h : A → Bool) → ((x : A) → h x ≡ (f x
 unfolding any
 any-either f g h e [] = refl
 any-either f g h e (x ∷ l) = ap₂ _||_ (e x) (any-either f g h e l) ∙ exchange (f x) (g x) (any f l) (any g l)
+
+-- a stronger test: where an element meets it, one meets the weaker
+pub any-weaker : {A : Type 0} (f g : A → Bool) → ((x : A) → f x ≡ true → g x ≡ true) → (l : List A) → any f l ≡ true → any g l ≡ true
+unfolding any
+any-weaker f g h [] e = e
+any-weaker f g h (x ∷ l) e = go (h x) (any-weaker f g h l) (f x) refl e
+  where
+    go : (f x ≡ true → g x ≡ true) → (any f l ≡ true → any g l ≡ true) → (b : Bool) → f x ≡ b → (b || any f l) ≡ true → (g x || any g l) ≡ true
+    go first others true p q = ap (λ b. b || any g l) (first p)
+    go first others false p q = ap (λ b. g x || b) (others q) ∙ or-true (g x)
+
+-- neither of two tests holds
+pub neither : (a b : Bool) → (a || b) ≡ false → (a ≡ false) × (b ≡ false)
+neither true b e = absurd (true≢false e)
+neither false b e = (refl, e)
 
 -- ------------------------------------------------------------------ numbers of a list
 

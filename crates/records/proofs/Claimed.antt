@@ -1,7 +1,7 @@
 -- The claims about a sheet's records hold.
 use mathlib.Core.Path.{_≡_, sym, _∙_}
 use mathlib.Core.List.{List, [], _∷_, _++_}
-use mathlib.Core.Bool.{Bool, true, false, _||_}
+use mathlib.Core.Bool.{Bool, true, false}
 use Prim.Native.Nat.{ℕ, zero, suc, _+_, _≤_, _<_}
 use native.Mathlib.Omega.{arith}
 use native.Mathlib.Decide.{decLe}
@@ -11,7 +11,7 @@ use borrow.Author.Tests.{lt-ltb, ltb-false}
 use Rattle.octets.specs.Octets.{Octets, any, same-text, is-empty}
 use Rattle.octets.specs.Framing.{size-of, after-record}
 use Rattle.octets.specs.Refusing.{_>>=_, ok, refusal, refuse-if}
-use Rattle.octets.proofs.ListLaws.{any-append}
+use Rattle.octets.proofs.ListLaws.{any-append, neither}
 use Rattle.octets.proofs.FramingLaws.{after-length}
 use Rattle.octets.proofs.RefusingLaws.{refuse-if-ok}
 use Rattle.txt.specs.declared.Status.{Status}
@@ -48,10 +48,6 @@ within-limit sheet rs e = go (decLe (length sheet) 65536)
         absurd (never {rs = rs} (length sheet) Phase.Author [] 0 sheet (omega arith) (omega arith) (omega arith) (rw over at (from-author sheet rs e)))
 
 -- ------------------------------------------------------------------ names answered
-
-neither : (a b : Bool) → (a || b) ≡ false → (a ≡ false) × (b ≡ false)
-neither false b e = (cc, e)
-neither true b e = absurd (let z : _≡_ {A = ℕ} 0 1 = cc in omega arith)
 
 unfoldable among : Octets → List Octets → Bool
 among n seen = any (λ m. same-text m n) seen
