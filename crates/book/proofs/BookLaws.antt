@@ -9,10 +9,10 @@ use borrow.Author.Tests.{le-leb}
 use Rattle.octets.proofs.TextLaws.{same-self}
 use lib.ListN.{length}
 use Rattle.octets.specs.Octets.{Octets, same, lower, is-nothing, same-text, if_then_else_}
-use Rattle.octets.specs.Refusing.{refusal}
+use Rattle.octets.specs.Refusing.{OrRefused, ok, not-ok, refusal}
 use Rattle.octets.specs.declared.Refusal.{Refusal}
 use Rattle.octets.specs.declared.Written.{Written}
-use Rattle.octets.specs.Lent.{over, fits, written, left, written-or, left-or}
+use Rattle.octets.specs.Lent.{over, fits, written, left, written-if, left-if}
 use Rattle.lookup.specs.Lookup.{Answers, Name, names, find, member, once, path, value, list, Standing, needs, has, run-over, Grown, start, grow, Completes}
 use Rattle.lookup.specs.Claims.{Distinct, Ends, now, later}
 use Rattle.lookup.proofs.NameLaws.{once-new, once-seen, once-distinct, member-last}
@@ -137,7 +137,7 @@ quiet-back (Written.Refused r) = refl
 
 quiet-field : (b : Book) (u : Standing Verdict) (output : Octets) → given-name (field-by b u output .back) ≡ []
 unfolding field-by given-name
-quiet-field b (has v) output = quiet-back (written-or (field-of (b .message) v) (refusal 9 0) output)
+quiet-field b (has v) output = quiet-back (written-if (field-of (b .message) v) output)
 quiet-field b (needs n) output = refl
 
 adds-next : (b : Book) → Kept b → (u : Standing Verdict) → standing b ≡ u → AddsName b (next-by b u)
@@ -358,13 +358,13 @@ stands-result b (needs n) h = (refl, refl)
 stands-result b (has v) h = absurd (false≢true h)
 
 stands-field : (b : Book) (u : Standing Verdict) (output : Octets) → Stands b output (b, field-by b u output)
-unfolding Stands field-by written-or left-or back-of written left is-refused
+unfolding Stands field-by written-if left-if back-of written left is-refused
 stands-field b (needs n) output h = (refl, refl)
 stands-field b (has v) output h = (refl, go (field-of (b .message) v) h)
   where
-    go : (o : Option Octets) → is-refused (back-of (written-or o (refusal 9 0) output)) ≡ true → left-or o output ≡ output
-    go nothing h = refl
-    go (just t) h = fit (fits t output) h
+    go : (o : OrRefused Octets) → is-refused (back-of (written-if o output)) ≡ true → left-if o output ≡ output
+    go (not-ok r) h = refl
+    go (ok t) h = fit (fits t output) h
       where
         fit : (f : Bool) → is-refused (back-of (if f then Written.Wrote (length t) else Written.Refused (refusal 10 (length t)))) ≡ true → (if f then over t output else output) ≡ output
         fit true h = absurd (false≢true h)

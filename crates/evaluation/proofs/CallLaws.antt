@@ -13,7 +13,7 @@ use Rattle.octets.specs.Octets.{Octets, same-text, part-of}
 use Rattle.octets.specs.Refusing.{refusal}
 use Rattle.octets.specs.declared.Refusal.{Refusal}
 use Rattle.octets.specs.declared.Written.{Written}
-use Rattle.octets.specs.Lent.{WritesOr}
+use Rattle.octets.specs.Lent.{WritesIf}
 use Rattle.lookup.specs.Lookup.{Name}
 use Rattle.domain.specs.declared.Octet.{Octet}
 use Rattle.domain.specs.Domain.{asked-name}
@@ -93,7 +93,7 @@ module _ (e : Evaluation) (s : e .started ≡ true) where
     unfolding judged-standing view-result-by result-back view
     result-verdict n f = record { leaves = rw result-standing; gives = rw (result-standing, ← h, f); stands = λ x. refl; same-domains = (refl, refl) }
 
-    pub field-verdict : (output left : Octets) (w : Written) → WritesOr (field-of (view e .message) (verdict-in (view e .message) j)) (refusal 9 0) output w left → Does e (field output) e (given (back-of w) left)
+    pub field-verdict : (output left : Octets) (w : Written) → WritesIf (field-of (view e .message) (verdict-in (view e .message) j)) output w left → Does e (field output) e (given (back-of w) left)
     unfolding judged-standing view-field-by view
     field-verdict output left w f = record { leaves = rw (field-standing output); gives = rw (field-standing output, ← h, f .answers, f .leaves); stands = λ x. refl; same-domains = (refl, refl) }
 

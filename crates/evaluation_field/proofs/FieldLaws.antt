@@ -2,13 +2,12 @@
 use mathlib.Core.Path.{_≡_}
 use mathlib.Core.List.{List}
 use mathlib.Core.Bool.{true, false, and-false}
-use mathlib.Core.Option.{none as nothing, some as just}
 use Prim.Native.Nat.{ℕ, _<_, min}
 use native.Mathlib.Omega.{arith}
 use Rattle.octets.specs.Octets.{Octets, any}
-use Rattle.octets.specs.Refusing.{refusal}
+use Rattle.octets.specs.Refusing.{ok, not-ok, refusal}
 use Rattle.octets.specs.declared.Written.{Written}
-use Rattle.octets.specs.Lent.{Writes, written-or, left-or, WritesOr}
+use Rattle.octets.specs.Lent.{Writes, written-if, left-if, WritesIf}
 use Rattle.reporting.specs.Field.{field-text}
 use Rattle.alignment.specs.Alignments.{Identifier}
 use Rattle.alignment_stored.specs.code.Stored.{stored-identifiers}
@@ -23,15 +22,15 @@ use Rattle.evaluation_methods.specs.code.Methods.{method-in, methods-of}
 
 module _ (domains : Octets) (numbers : List ℕ) (t : Terms) (j : Judgement) (out : Octets) where
   -- refusal 9
-  nothing-written : field-of (stored-message domains numbers t) (verdict-in (stored-message domains numbers t) j) ≡ nothing → WritesOr (field-of (stored-message domains numbers t) (verdict-in (stored-message domains numbers t) j)) (refusal 9 0) out (Written.Refused (refusal 9 0)) out
-  unfolding written-or left-or
+  nothing-written : field-of (stored-message domains numbers t) (verdict-in (stored-message domains numbers t) j) ≡ not-ok (refusal 9 0) → WritesIf (field-of (stored-message domains numbers t) (verdict-in (stored-message domains numbers t) j)) out (Written.Refused (refusal 9 0)) out
+  unfolding written-if left-if
   nothing-written f = record { answers = rw f; leaves = rw f }
 
-  pub not-judged : passed-or-failed (j .result) ≡ false → WritesOr (field-of (stored-message domains numbers t) (verdict-in (stored-message domains numbers t) j)) (refusal 9 0) out (Written.Refused (refusal 9 0)) out
+  pub not-judged : passed-or-failed (j .result) ≡ false → WritesIf (field-of (stored-message domains numbers t) (verdict-in (stored-message domains numbers t) j)) out (Written.Refused (refusal 9 0)) out
   unfolding field-of verdict-in
   not-judged h = nothing-written (rw h)
 
-  pub none-given : t .identifiers ≡ 0 → WritesOr (field-of (stored-message domains numbers t) (verdict-in (stored-message domains numbers t) j)) (refusal 9 0) out (Written.Refused (refusal 9 0)) out
+  pub none-given : t .identifiers ≡ 0 → WritesIf (field-of (stored-message domains numbers t) (verdict-in (stored-message domains numbers t) j)) out (Written.Refused (refusal 9 0)) out
   unfolding field-of verdict-in stored-message stored-identifiers any
   none-given h = nothing-written (rw (h, and-false (passed-or-failed (j .result))))
 
@@ -41,11 +40,11 @@ module _ (domains : Octets) (numbers : List ℕ) (t : Terms) (j : Judgement) (ou
     unfolding any
     some-given = rw (next-identifier domains numbers 1 (min (t .identifiers) 16) (omega arith))
 
-    field-octets : passed-or-failed (j .result) ≡ true → field-of (stored-message domains numbers t) (verdict-in (stored-message domains numbers t) j) ≡ just (field-text (m .dkim) (m .spf))
+    field-octets : passed-or-failed (j .result) ≡ true → field-of (stored-message domains numbers t) (verdict-in (stored-message domains numbers t) j) ≡ ok (field-text (m .dkim) (m .spf))
     unfolding field-of verdict-in stored-message method methods-of method-in
     field-octets h = rw (h, some-given, identifiers-length domains numbers 1 (min (t .identifiers) 16), g)
 
     pub field-written : passed-or-failed (j .result) ≡ true → (w : Written) (left : Octets) → Writes (field-text (m .dkim) (m .spf)) out w left
-        → WritesOr (field-of (stored-message domains numbers t) (verdict-in (stored-message domains numbers t) j)) (refusal 9 0) out w left
-    unfolding written-or left-or
+        → WritesIf (field-of (stored-message domains numbers t) (verdict-in (stored-message domains numbers t) j)) out w left
+    unfolding written-if left-if
     field-written h w left writes = record { answers = rw (field-octets h) (writes .answers); leaves = rw (field-octets h) (writes .leaves) }

@@ -1,8 +1,7 @@
 // The Identity-Alignment field of a verdict.
 ghost use mathlib.Core.Path.{_≡_};
 ghost use Rattle.octets.specs.Octets.{Octets};
-ghost use Rattle.octets.specs.Lent.{WritesOr};
-ghost use Rattle.octets.specs.Refusing.{refusal};
+ghost use Rattle.octets.specs.Lent.{WritesIf};
 ghost use Rattle.verdict_apply.specs.code.Judging.{stored-message, verdict-in};
 ghost use Rattle.book.specs.Book.{field, given, back-of, passed-or-failed, field-of};
 ghost use Rattle.evaluation.specs.code.View.{Does};
@@ -28,7 +27,7 @@ fn is_pass_or_fail(r: Result) -> bool
 
 // The field of a verdict into the front of lent memory.
 fn write_methods(numbers: &[usize], t: Terms, j: Judgement, out: &mut [u8]) -> Written
-    ensures { λ r. ⌜ ((domains : Octets) → WritesOr (field-of (stored-message domains (now (numbers .entry)) t) (verdict-in (stored-message domains (now (numbers .entry)) t) j)) (refusal 9 0) (now (out .entry)) r (now (out .exit))) ⌝ }
+    ensures { λ r. ⌜ ((domains : Octets) → WritesIf (field-of (stored-message domains (now (numbers .entry)) t) (verdict-in (stored-message domains (now (numbers .entry)) t) j)) (now (out .entry)) r (now (out .exit))) ⌝ }
 {
     let found = j.result;
     if !is_pass_or_fail(found) {

@@ -7,15 +7,15 @@ ghost use Rattle.octets_pieces.specs.code.Pieces.{piece, pieces};
 ghost use Rattle.octets_pieces.specs.code.Putting.{Puts};
 
 // The piece of that number: a table's texts stand one after the other, and `begins` has where each begins and where the last ends.
-fn find_piece<'a>(texts: &'a [u8], begins: &'a [usize], n: u8) -> &'a [u8]
+pub fn find_piece<'a>(texts: &'a [u8], begins: &'a [u16], n: u8) -> &'a [u8]
     ensures { λ r. ⌜ now r ≡ piece (now (texts .entry)) (now (begins .entry)) n ⌝ }
 {
     let i = n as usize;
     if begins.len() <= i + 1 {
         return &texts[0..0];
     }
-    let begin = begins[i];
-    let end = begins[i + 1];
+    let begin = begins[i] as usize;
+    let end = begins[i + 1] as usize;
     text_parts::part(texts, begin, end)
 }
 
@@ -30,7 +30,7 @@ pub fn put(text: &[u8], at: usize, out: &mut [u8]) -> usize
 // The pieces of a list of numbers from a place of lent memory on, and the place after them.
 pub fn put_pieces<'a>(
     texts: &'a [u8],
-    begins: &'a [usize],
+    begins: &'a [u16],
     list: &'a [u8],
     at: usize,
     out: &mut [u8],

@@ -21,7 +21,7 @@ pub fn has_valid_entry(list: &[u8]) -> bool
 }
 
 // A scheme, `:`, and a URI's octets.
-fn is_valid_entry(entry: &[u8]) -> bool
+pub fn is_valid_entry(entry: &[u8]) -> bool
     ensures { λ r. ⌜ r ≡ valid-entry (now (entry .entry)) ⌝ }
 {
     if entry.len() == 0 {

@@ -1,22 +1,23 @@
 -- The rules of the small tables, each a test that is computed at every row.
 use mathlib.Core.Bool.{Bool, true, false, _&&_}
-use mathlib.Core.List.{List, [], _∷_, _++_, map}
+use mathlib.Core.List.{List, [], _∷_, _++_, map, flatten}
 use mathlib.Core.Path.{_≡_, refl, ap, sym, _∙_, subst}
-use Prim.Native.Nat.{ℕ, zero, suc, _+_, _≤_, _<_}
+use Prim.Native.Nat.{ℕ, zero, suc, _+_, _-_, _≤_, _<_}
 use Prim.Native.String.{String}
 use native.Mathlib.Nat.{add-zero, zero-add, add-suc, suc-add, le-of-suc-le-suc, not-suc-le-zero}
 use native.Mathlib.Numerals.{add-one}
 use native.Mathlib.Omega.{arith}
 use lib.Dec.{T, eqb, eqb→eq}
-use lib.ListN.{length, drop, getD, length-map}
-use lib.Seq.{drop-cons, drop-length}
+use lib.ListN.{length, getD, length-map}
 use borrow.Author.Tests.{eq-eqb, ne-eqb}
 use Rattle.octets.specs.Octets.{Octets, octets, same, lower, same-text}
 use Rattle.octets.proofs.TextLaws.{and-left, and-right, true→T, same-true}
+use Rattle.octets_pieces.specs.code.Pieces.{piece, pieces, starts}
+use Rattle.octets_pieces.proofs.PieceLaws.{word-piece, word-pieces}
 use Rattle.policy.specs.declared.Policy.{Policy}
 use Rattle.policy.specs.Records.{word}
 use Rattle.force.specs.InForce.{step-down}
-use Rattle.policy_words.specs.code.Rows.{tag-names, tag-name, policy-number, policy-at, tag-number, row-word, position, row-of}
+use Rattle.policy_words.specs.code.Rows.{tag-names, tag-name, policy-number, policy-at, tag-number, record-words, words-of, words-from, position, word-place}
 
 -- ------------------------------------------------------------------ any table
 
@@ -106,20 +107,34 @@ named-by-number n k h = go (same n (tag-name k)) refl
     go true e = e ∙ sym (eq-eqb (tag-number n) k (ap tag-number (same-true n (tag-name k) e) ∙ number-of-name k h))
     go false e = e ∙ sym (ne-eqb (tag-number n) k (λ q. true→T {b = false} (sym e ∙ name-of-number n k h q)))
 
--- ------------------------------------------------------------------ tables of words
+-- ------------------------------------------------------------------ the words from one number to before another
 
-module _ (s : Octets) (rows : List Octets) (i : ℕ) (h : i < length rows) where
-  pub rows-here : same-text s (row-word (getD rows i [])) ≡ true → i + row-of s (drop i rows) ≡ i
-  unfolding row-of same-text
-  rows-here e = rw (drop-cons rows i [] h, position-here (lower s) (lower (row-word (getD rows i []))) (map (λ row. lower (row-word row)) (drop (suc i) rows)) e) (omega arith)
+-- the words of a table by their numbers, as the code finds them
+pub word-is : (n : ℕ) → piece (flatten record-words) (starts 0 record-words) n ≡ getD record-words n []
+word-is n = word-piece record-words n
 
-  pub rows-next : same-text s (row-word (getD rows i [])) ≡ false → i + row-of s (drop i rows) ≡ i + 1 + row-of s (drop (i + 1) rows)
-  unfolding row-of same-text
-  rows-next e = rw (drop-cons rows i [] h, position-next (lower s) (lower (row-word (getD rows i []))) (map (λ row. lower (row-word row)) (drop (suc i) rows)) e, add-one i) (omega arith)
+pub words-are : (ns : List ℕ) → pieces (flatten record-words) (starts 0 record-words) ns ≡ words-of ns
+unfolding words-of
+words-are ns = word-pieces record-words ns
 
-pub rows-past : (s : Octets) (rows : List Octets) (i : ℕ) → i ≡ length rows → i + row-of s (drop i rows) ≡ i
-unfolding row-of position
-rows-past s rows i e = rw (e, drop-length rows) (omega arith)
+module _ (s : Octets) (i last : ℕ) where
+  more : i < last → words-from i (last - i) ≡ getD record-words i [] ∷ words-from (i + 1) (last - (i + 1))
+  unfolding words-from
+  more h = let size : last - i ≡ suc (last - (i + 1)) = omega arith in rw (size, add-one i)
+
+  pub place-here : i < last → same-text s (getD record-words i []) ≡ true → word-place s i last ≡ 0
+  unfolding word-place same-text
+  place-here h e = rw (more h) (position-here (lower s) (lower (getD record-words i [])) (map lower (words-from (i + 1) (last - (i + 1)))) e)
+
+  pub place-next : i < last → same-text s (getD record-words i []) ≡ false → word-place s i last ≡ suc (word-place s (i + 1) last)
+  unfolding word-place same-text
+  place-next h e = rw (more h) (position-next (lower s) (lower (getD record-words i [])) (map lower (words-from (i + 1) (last - (i + 1)))) e)
+
+  pub place-past : last ≤ i → word-place s i last ≡ 0
+  unfolding word-place words-from position
+  place-past h = let none : last - i ≡ 0 = omega arith in rw none
+
+-- ------------------------------------------------------------------ what a word says
 
 -- what a table of words gives: the entry of the word's place
 word-at : {A : Type 0} (rows : List (String × A)) (other : A) (v : Octets) → word rows other v ≡ getD (map (λ r. r .1) rows) (position (lower v) (map (λ r. octets (r .0)) rows)) other
@@ -138,16 +153,24 @@ last-entry [] a d (suc n) h = absurd (omega arith)
 last-entry (x ∷ xs) a d zero h = refl
 last-entry (x ∷ xs) a d (suc n) h = last-entry xs a d n (omega arith)
 
--- a table of entries beside a table of rows: the entry of a row, and last what holds of any other value
-module _ (v : Octets) (table : List Octets) (n : ℕ) (h : n ≡ row-of v table) where
-  pub entry-fits : n ≤ length table
-  unfolding row-of
-  entry-fits = omega (arith, position-fits (lower v) (map (λ row. lower (row-word row)) table), length-map table (λ row. lower (row-word row)))
+words-count : (first count : ℕ) → length (words-from first count) ≡ count
+unfolding words-from
+words-count first zero = refl
+words-count first (suc count) = ap suc (words-count (suc first) count)
 
-  -- if the rows are the words
-  pub entry-word : {A : Type 0} (rows : List (String × A)) (other : A) → map (λ row. lower (row-word row)) table ≡ map (λ r. octets (r .0)) rows → (d : A) → getD (map (λ r. r .1) rows ++ (other ∷ [])) n d ≡ word rows other v
-  unfolding row-of
+-- a table of entries beside the words from one number to before another: the entry of a word, and last what holds of any other value
+module _ (v : Octets) (first last n : ℕ) (h : n ≡ word-place v first last) where
+  size : length (map lower (words-from first (last - first))) ≡ last - first
+  size = length-map (words-from first (last - first)) lower ∙ words-count first (last - first)
+
+  pub entry-fits : n ≤ last - first
+  unfolding word-place
+  entry-fits = omega (arith, position-fits (lower v) (map lower (words-from first (last - first))), size)
+
+  -- if the words are those of the rows
+  pub entry-word : {A : Type 0} (rows : List (String × A)) (other : A) → map lower (words-from first (last - first)) ≡ map (λ r. octets (r .0)) rows → (d : A) → getD (map (λ r. r .1) rows ++ (other ∷ [])) n d ≡ word rows other v
+  unfolding word-place
   entry-word rows other e d =
-      last-entry (map (λ r. r .1) rows) other d n (omega (arith, entry-fits, length-map table (λ row. lower (row-word row)), ap length e, length-map rows (λ r. octets (r .0)), length-map rows (λ r. r .1)))
+      last-entry (map (λ r. r .1) rows) other d n (omega (arith, entry-fits, size, ap length e, length-map rows (λ r. octets (r .0)), length-map rows (λ r. r .1)))
       ∙ ap (λ (i : ℕ). getD (map (λ r. r .1) rows) i other) (h ∙ ap (position (lower v)) e)
       ∙ sym (word-at rows other v)

@@ -1,10 +1,11 @@
-// The small tables: the step down of a policy, the known tag names, the words of a value.
+// The small tables: the step down of a policy, and the words of a policy record, as it is read and as it is written.
 ghost use mathlib.Core.Bool.{false};
 ghost use mathlib.Core.Path.{_≡_};
-ghost use Rattle.octets.specs.Octets.{lower, same-text};
+ghost use Rattle.octets.specs.Octets.{lower};
 ghost use Rattle.policy.specs.Records.{word, policy-words, mode-words, psd-words, testing-words};
 ghost use Rattle.force.specs.InForce.{step-down};
-ghost use Rattle.policy_words.specs.code.Rows.{policy-number, tag-number, row-word, row-of};
+ghost use Rattle.octets_pieces.specs.code.Putting.{Puts};
+ghost use Rattle.policy_words.specs.code.Rows.{policy-number, tag-number, words-of, word-place};
 use policy::Mode;
 use policy::Policy;
 use policy::Psd;
@@ -13,27 +14,39 @@ use policy::Setting;
 // By the policy's number.
 const STEP_DOWN: [Policy; 3] = [Policy::None, Policy::None, Policy::Quarantine];
 
-// The known tag names, and the others of RFC 9989's registry. A row is the place at which its word ends, the word in lower case, and spaces.
-const TAG_NAMES: [[u8; 11]; 14] = [
-    *b"\x02p         ",
-    *b"\x03sp        ",
-    *b"\x03np        ",
-    *b"\x06adkim     ",
-    *b"\x05aspf      ",
-    *b"\x04psd       ",
-    *b"\x02t         ",
-    *b"\x04rua       ",
-    *b"\x02v         ",
-    *b"\x04ruf       ",
-    *b"\x03fo        ",
-    *b"\x04pct       ",
-    *b"\x03rf        ",
-    *b"\x03ri        ",
+// The words of a policy record by their numbers, one after the other, and where each begins: from 0 the known tag names and the others of RFC 9989's registry, from 14 the words of p, sp and np, from 17 those of adkim and aspf, from 19 those of psd, which begin with those of t; and from 22 what else is written.
+const WORDS: [u8; 70] = *b"pspnpadkimaspfpsdtruavruffopctrfrinonequarantinerejectrsynuv=DMARC1; =";
+
+const BEGINS: [u16; 26] = [
+    0,
+    1,
+    3,
+    5,
+    10,
+    14,
+    17,
+    18,
+    21,
+    22,
+    25,
+    27,
+    30,
+    32,
+    34,
+    38,
+    48,
+    54,
+    55,
+    56,
+    57,
+    58,
+    59,
+    67,
+    69,
+    70,
 ];
 
-// What a value's words say stands in the table after theirs, and last what any other value says.
-const POLICY_WORDS: [[u8; 11]; 3] = [*b"\x05none      ", *b"\x0bquarantine", *b"\x07reject    "];
-
+// What a value's words say, and last what any other value says.
 const SETTINGS: [Setting; 4] = [
     Setting::Set(Policy::None),
     Setting::Set(Policy::Quarantine),
@@ -41,15 +54,9 @@ const SETTINGS: [Setting; 4] = [
     Setting::Invalid,
 ];
 
-const MODE_WORDS: [[u8; 11]; 2] = [*b"\x02r         ", *b"\x02s         "];
-
 const MODES: [Mode; 3] = [Mode::Relaxed, Mode::Strict, Mode::Relaxed];
 
-const PSD_WORDS: [[u8; 11]; 3] = [*b"\x02y         ", *b"\x02n         ", *b"\x02u         "];
-
 const PSDS: [Psd; 4] = [Psd::Yes, Psd::No, Psd::Unset, Psd::Unset];
-
-const TESTING_WORDS: [[u8; 11]; 2] = [*b"\x02y         ", *b"\x02n         "];
 
 const TESTINGS: [bool; 3] = [true, false, false];
 
@@ -72,43 +79,43 @@ fn policy_number(p: Policy) -> usize
     }
 }
 
+// The place of a text, in either case, among the words from one number to before another; how many they are where it is none of them.
+fn find_word(s: &[u8], first: u8, last: u8) -> usize
+    ensures { λ r. ⌜ r ≡ word-place (now (s .entry)) first last ⌝ }
+{
+    let words = WORDS;
+    let begins = BEGINS;
+    let mut i = first;
+    while i < last {
+        if octets_write::same_text(s, octets_pieces::find_piece(&words, &begins, i)) {
+            return (i - first) as usize;
+        }
+        i = i + 1;
+    }
+    (i - first) as usize
+}
+
+// The words of a list of numbers from a place of lent memory on, and the place after them; a number past the last is nothing.
+pub fn put_words(list: &[u8], at: usize, out: &mut [u8]) -> usize
+    ensures { λ r. ⌜ Puts (words-of (now (list .entry))) at (now (out .entry)) r (now (out .exit)) ⌝ }
+{
+    let words = WORDS;
+    let begins = BEGINS;
+    octets_pieces::put_pieces(&words, &begins, list, at, out)
+}
+
 // The number of a tag name, in either case; 14 where it is not known.
 pub fn tag_number(name: &[u8]) -> usize
     ensures { λ r. ⌜ r ≡ tag-number (lower (now (name .entry))) ⌝ }
 {
-    let names = TAG_NAMES;
-    find_word(name, &names)
-}
-
-// Whether a text is the word of a row, in either case.
-fn is_row(s: &[u8], row: [u8; 11]) -> bool
-    ensures { λ r. ⌜ r ≡ same-text (now (s .entry)) (row-word row) ⌝ }
-{
-    let end = row[0] as usize;
-    octets_write::same_text(s, text_parts::part(&row, 1, end))
-}
-
-// The number of the row whose word a text is, in either case; how many rows there are where it is none.
-fn find_word(s: &[u8], rows: &[[u8; 11]]) -> usize
-    ensures { λ r. ⌜ r ≡ row-of (now (s .entry)) (now (rows .entry)) ⌝ }
-{
-    let mut i = 0;
-    while i < rows.len() {
-        let row = rows[i];
-        if is_row(s, row) {
-            return i;
-        }
-        i = i + 1;
-    }
-    i
+    find_word(name, 0, 14)
 }
 
 // What a value of p, sp or np says.
 pub fn read_setting(value: &[u8]) -> Setting
     ensures { λ r. ⌜ r ≡ word policy-words Setting.Invalid (now (value .entry)) ⌝ }
 {
-    let words = POLICY_WORDS;
-    let number = find_word(value, &words);
+    let number = find_word(value, 14, 17);
     SETTINGS[number]
 }
 
@@ -116,8 +123,7 @@ pub fn read_setting(value: &[u8]) -> Setting
 pub fn read_mode(value: &[u8]) -> Mode
     ensures { λ r. ⌜ r ≡ word mode-words Mode.Relaxed (now (value .entry)) ⌝ }
 {
-    let words = MODE_WORDS;
-    let number = find_word(value, &words);
+    let number = find_word(value, 17, 19);
     MODES[number]
 }
 
@@ -125,8 +131,7 @@ pub fn read_mode(value: &[u8]) -> Mode
 pub fn read_psd(value: &[u8]) -> Psd
     ensures { λ r. ⌜ r ≡ word psd-words Psd.Unset (now (value .entry)) ⌝ }
 {
-    let words = PSD_WORDS;
-    let number = find_word(value, &words);
+    let number = find_word(value, 19, 22);
     PSDS[number]
 }
 
@@ -134,7 +139,6 @@ pub fn read_psd(value: &[u8]) -> Psd
 pub fn read_testing(value: &[u8]) -> bool
     ensures { λ r. ⌜ r ≡ word testing-words false (now (value .entry)) ⌝ }
 {
-    let words = TESTING_WORDS;
-    let number = find_word(value, &words);
+    let number = find_word(value, 19, 21);
     TESTINGS[number]
 }

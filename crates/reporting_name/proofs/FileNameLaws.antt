@@ -12,7 +12,7 @@ use lib.Dec.{leb}
 use lib.ListN.{length, length-append}
 use Rattle.octets.specs.Octets.{Octets, octets, if_then_else_, lower}
 use Rattle.octets.specs.Decimal.{decimal}
-use Rattle.octets.specs.Lent.{Writes, WritesOr, written-or, left-or}
+use Rattle.octets.specs.Lent.{Writes, WritesIf, written-if, left-if}
 use Rattle.octets.specs.Refusing.{refusal}
 use Rattle.octets.specs.declared.Written.{Written}
 use Rattle.octets.specs.declared.Written.the-variants.{Wrote, Refused}
@@ -72,8 +72,8 @@ name-short r p begin end id good h k =
 -- ------------------------------------------------------------------ the promise, by the test that the code makes
 
 module _ (r p : Domain) (begin end : ℕ) (id : Option Octets) (before : Octets) {good : Bool} (e : good ≡ good-report r p begin end id) where
-  pub name-refused : not good ≡ true → WritesOr (file-name r p begin end id) (refusal 11 0) before (Refused (refusal 11 0)) before
-  unfolding file-name written-or left-or
+  pub name-refused : not good ≡ true → WritesIf (file-name r p begin end id) before (Refused (refusal 11 0)) before
+  unfolding file-name written-if left-if
   name-refused h = let bad = sym e ∙ not-true good h in record { answers = rw bad; leaves = rw bad }
 
   -- of what can be written the length is counted first
@@ -88,15 +88,15 @@ module _ (r p : Domain) (begin end : ℕ) (id : Option Octets) (before : Octets)
     unfolding text
     counted = q .counts (omega (arith, name-short r p begin end id is-good b k)) ∙ zero-add (length text)
 
-    by : {answer : Written} {after : Octets} → Writes text before answer after → WritesOr (file-name r p begin end id) (refusal 11 0) before answer after
-    unfolding file-name written-or left-or text
+    by : {answer : Written} {after : Octets} → Writes text before answer after → WritesIf (file-name r p begin end id) before answer after
+    unfolding file-name written-if left-if text
     by w = record { answers = rw is-good (w .answers); leaves = rw is-good (w .leaves) }
 
-    pub name-too-long : length before < n → WritesOr (file-name r p begin end id) (refusal 11 0) before (Refused (refusal 10 n)) before
+    pub name-too-long : length before < n → WritesIf (file-name r p begin end id) before (Refused (refusal 10 n)) before
     name-too-long l = by (refuses text before (omega (arith, counted)) n counted (Refused (refusal 10 n)) refl)
 
     pub name-written : n ≤ length before → {next : ℕ} {after : Octets} → Puts (file-name-text r p begin end id) 0 before next after
-        → WritesOr (file-name r p begin end id) (refusal 11 0) before (Wrote next) after
+        → WritesIf (file-name r p begin end id) before (Wrote next) after
     unfolding text
     name-written l s = let room : length text ≤ length before = omega (arith, counted) in by (appends-whole text before room (s .appends (omega (arith, room))))
 

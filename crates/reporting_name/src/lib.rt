@@ -2,8 +2,7 @@
 ghost use mathlib.Core.Path.{_≡_};
 ghost use mathlib.Core.List.{[]};
 ghost use Rattle.octets.specs.Octets.{if_then_else_};
-ghost use Rattle.octets.specs.Lent.{WritesOr};
-ghost use Rattle.octets.specs.Refusing.{refusal};
+ghost use Rattle.octets.specs.Lent.{WritesIf};
 ghost use Rattle.octets_pieces.specs.code.Putting.{Puts};
 ghost use Rattle.reporting.specs.FileName.{given-id, good-id-if-any, good-report, file-name-text, file-name};
 use octets::Refusal;
@@ -82,7 +81,7 @@ pub fn write_file_name<'a>(
     id: &'a [u8],
     out: &mut [u8],
 ) -> Written
-    ensures { λ r. ⌜ WritesOr (file-name (now (receiver .entry)) (now («policy_domain» .entry)) begin end (given-id named (now (id .entry)))) (refusal 11 0) (now (out .entry)) r (now (out .exit)) ⌝ }
+    ensures { λ r. ⌜ WritesIf (file-name (now (receiver .entry)) (now («policy_domain» .entry)) begin end (given-id named (now (id .entry)))) (now (out .entry)) r (now (out .exit)) ⌝ }
 {
     if !is_report(receiver, policy_domain, begin, end, named, id) {
         return Written::Refused(Refusal {

@@ -25,7 +25,7 @@ pub fn append_ask(name: &[u8], at: usize, out: &mut [u8]) -> usize
 const WORDS: [u8; 93] =
     *b"nonepassfailtemperrorpermerrorquarantinerejectunknowndeferresult \npolicy \ndisposition \nasked ";
 
-const BEGINS: [usize; 14] = [0, 4, 8, 12, 21, 30, 40, 46, 53, 58, 65, 73, 86, 93];
+const BEGINS: [u16; 14] = [0, 4, 8, 12, 21, 30, 40, 46, 53, 58, 65, 73, 86, 93];
 
 // The number of a result's word.
 fn result_piece(r: Result) -> u8

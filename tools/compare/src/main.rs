@@ -1,5 +1,6 @@
-//! Compares the proved evaluator with the second one, sheet by sheet, and the
-//! proved daily rows with the second evaluator's, history by history.
+//! Compares the proved evaluator with the second one, sheet by sheet, the proved
+//! daily rows with the second evaluator's, history by history, and the proved
+//! writer and reader of policy records, record by record.
 
 #![deny(unsafe_code)]
 
@@ -9,7 +10,11 @@ mod histories;
 mod program;
 #[allow(unsafe_code)]
 mod proved;
+mod publishing;
+mod refused;
 mod time;
+#[cfg(test)]
+mod wrongs;
 
 use std::process::ExitCode;
 
@@ -25,6 +30,7 @@ const USAGE: &str = "usage:
   compare sheets ORDINARY HOSTILE SEED
   compare program PATH COUNT SEED
   compare histories COUNT SEED
+  compare records COUNT SEED
   compare time COUNT SEED";
 
 fn main() -> ExitCode {
@@ -32,6 +38,7 @@ fn main() -> ExitCode {
         ["sheets", ordinary, hostile, seed] => compare_sheets([ordinary, hostile, seed]),
         ["program", path, count, seed] => compare_program(path, [count, seed]),
         ["histories", count, seed] => compare_histories([count, seed]),
+        ["records", count, seed] => compare_records([count, seed]),
         ["time", count, seed] => print_times([count, seed]),
         _ => Err(USAGE.to_string()),
     })
@@ -114,6 +121,16 @@ fn compare_program(path: &str, words: [&str; 2]) -> Result<(), String> {
 fn compare_histories(words: [&str; 2]) -> Result<(), String> {
     let [count, seed] = numbers(words)?;
     println!("{}", histories::compare(&Proved, count, seed)?);
+    Ok(())
+}
+
+/// Policy records by both, in this process.
+fn compare_records(words: [&str; 2]) -> Result<(), String> {
+    let [count, seed] = numbers(words)?;
+    println!(
+        "{}",
+        publishing::compare(&records::code::Proved, count, seed)?
+    );
     Ok(())
 }
 

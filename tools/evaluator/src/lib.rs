@@ -11,6 +11,7 @@ pub mod domain;
 pub mod evaluate;
 pub mod grounds;
 pub mod policy;
+pub mod publishing;
 pub mod refusal;
 pub mod report;
 pub mod rows;

@@ -10,6 +10,8 @@ mod texts;
 
 use crate::random::Random;
 
+pub use texts::any_text;
+
 /// The two kinds of sheets.
 #[derive(Clone, Copy, Debug, PartialEq, Eq)]
 pub enum SheetKind {

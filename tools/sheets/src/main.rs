@@ -1,17 +1,17 @@
 //! Runs, makes and describes sheets, and generates them from a seed.
 
 use std::fs;
-use std::io::{self, Read, Write};
 use std::path::Path;
 use std::process::ExitCode;
 
 use evaluator::sheet;
+use sheets::command::{self, failed, input, output};
 use sheets::examples::MARKED;
 use sheets::generate::SheetKind;
 use sheets::programs::cases::Files;
 use sheets::programs::{calls, messages, timing, vectors};
 use sheets::tally::tally;
-use sheets::{command, description, explain};
+use sheets::{description, explain};
 
 const USAGE: &str = "usage:
   dmarc-tools run < sheet
@@ -42,24 +42,6 @@ fn main() -> ExitCode {
         ["messages", cases, expected] => write_cases([cases, expected], messages::files(), "M"),
         _ => Err(USAGE.to_string()),
     })
-}
-
-fn failed(error: io::Error) -> String {
-    error.to_string()
-}
-
-/// Standard input, up to so many octets.
-fn input(most: u64) -> Result<Vec<u8>, String> {
-    let mut octets = Vec::new();
-    let mut limited = io::stdin().lock().take(most);
-    limited.read_to_end(&mut octets).map_err(failed)?;
-    Ok(octets)
-}
-
-fn output(octets: &[u8]) -> Result<(), String> {
-    let mut out = io::stdout().lock();
-    out.write_all(octets).map_err(failed)?;
-    out.flush().map_err(failed)
 }
 
 /// A sheet from standard input. One octet over the limit settles that it is

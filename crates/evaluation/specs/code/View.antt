@@ -8,7 +8,7 @@ use lib.Dec.{leb, ltb}
 use lib.ListN.{length, drop, replicate}
 use Rattle.octets.specs.Octets.{Octets, if_then_else_, same-text}
 use Rattle.octets.specs.Refusing.{OrRefused, ok, not-ok, refusal}
-use Rattle.octets.specs.Lent.{written-or, left-or}
+use Rattle.octets.specs.Lent.{written-if, left-if}
 use Rattle.lookup.specs.Lookup.{Name, Answers, Standing, needs, has, run-over}
 use Rattle.domain.specs.declared.Octet.{Octet}
 use Rattle.domain.specs.Domain.{asked-name}
@@ -132,7 +132,7 @@ view-result v = if v .started then view-result-by v (view-standing v) else given
 
 unfoldable pub view-field-by : View → Standing Verdict → (output : Octets) → Given
 view-field-by v (needs n) output = given (refused (refusal 7 0)) output
-view-field-by v (has w) output = given (back-of (written-or (field-of (v .message) w) (refusal 9 0) output)) (left-or (field-of (v .message) w) output)
+view-field-by v (has w) output = given (back-of (written-if (field-of (v .message) w) output)) (left-if (field-of (v .message) w) output)
 
 unfoldable pub view-field : View → (output : Octets) → Given
 view-field v output = if v .started then view-field-by v (view-standing v) output else given (refused (refusal 7 0)) output

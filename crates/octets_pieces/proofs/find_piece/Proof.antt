@@ -1,6 +1,7 @@
 -- `octets_pieces::find_piece` meets its contract.
 use borrow.Author.Needs.{needs}
 use native.Mathlib.Omega.{arith}
+use Prim.Native.Nat.{_+_}
 use mathlib.Core.Path.{sym}
 use Rattle.octets_pieces.specs.code.Pieces.{piece}
 use Rattle.octets_pieces.proofs.PieceLaws.{no-piece}
@@ -30,6 +31,9 @@ mul-begin c = search needs
 shared-slice-read-begin : tie.Need-shared-slice-read-begin
 shared-slice-read-begin c = search needs
 
+cast-begin : tie.Need-cast-begin
+cast-begin c = omega (arith, c .shared-slice-known3 .given (c .before .before .before .before .args .n))
+
 add-end : tie.Need-add-end
 add-end c = search needs
 
@@ -38,6 +42,9 @@ mul-end c = search needs
 
 shared-slice-read-end : tie.Need-shared-slice-read-end
 shared-slice-read-end c = search needs
+
+cast-end : tie.Need-cast-end
+cast-end c = omega (arith, c .shared-slice-known4 .given (c .before .before .before .before .before .args .n + 1))
 
 part-requires : tie.Need-part-requires
 part-requires c κs = search needs
@@ -57,8 +64,10 @@ find-piece-spec =
     returns
     mul-begin
     shared-slice-read-begin
+    cast-begin
     add-end
     mul-end
     shared-slice-read-end
+    cast-end
     part-requires
     returns-2)

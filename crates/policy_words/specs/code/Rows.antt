@@ -1,10 +1,10 @@
--- The rows of the small tables, as code finds them.
-use mathlib.Core.List.{List, [], _∷_, map}
+-- The small tables, as code finds their rows.
+use mathlib.Core.List.{List, [], _∷_, _++_, map, flatten}
 use mathlib.Core.Bool.{true, false}
-use Prim.Native.Nat.{ℕ, suc}
+use Prim.Native.Nat.{ℕ, zero, suc, _-_}
 use Prim.Native.String.{String}
 use lib.ListN.{getD}
-use Rattle.octets.specs.Octets.{Octets, octets, same, lower, part-of}
+use Rattle.octets.specs.Octets.{Octets, octets, same, lower}
 use Rattle.policy.specs.declared.Policy.{Policy}
 
 -- none 0, quarantine 1, reject 2
@@ -25,9 +25,18 @@ tag-names = "p" ∷ "sp" ∷ "np" ∷ "adkim" ∷ "aspf" ∷ "psd" ∷ "t" ∷ "
 unfoldable pub tag-name : ℕ → Octets
 tag-name k = getD (map octets tag-names) k []
 
--- a row of a table of words: the place at which the word ends, and then the word
-unfoldable pub row-word : Octets → Octets
-row-word row = part-of row 1 (getD row 0 0)
+-- the words of a policy record by their numbers: tag names, the words of values, and what else is written
+unfoldable pub record-words : List Octets
+record-words = map octets (tag-names ++ ("none" ∷ "quarantine" ∷ "reject" ∷ "r" ∷ "s" ∷ "y" ∷ "n" ∷ "u" ∷ "v=DMARC1" ∷ "; " ∷ "=" ∷ []))
+
+-- the words of a list of numbers, one after the other; a number past the last is nothing
+unfoldable pub words-of : List ℕ → Octets
+words-of ns = flatten (map (λ n. getD record-words n []) ns)
+
+-- the words of as many numbers from one on
+unfoldable pub words-from : (first count : ℕ) → List Octets
+words-from first zero = []
+words-from first (suc count) = getD record-words first [] ∷ words-from (suc first) count
 
 -- the place of a text in a list of texts; the list's length where it is none of them
 unfoldable pub position : Octets → List Octets → ℕ
@@ -38,6 +47,6 @@ position s (w ∷ ws) = elim (same s w) [ true ↦ 0 | false ↦ suc (position s
 unfoldable pub tag-number : Octets → ℕ
 tag-number n = position n (map octets tag-names)
 
--- the row whose word a text is, in either case; how many rows there are where it is none
-unfoldable pub row-of : Octets → List Octets → ℕ
-row-of s rows = position (lower s) (map (λ row. lower (row-word row)) rows)
+-- the place of a text, in either case, among the words from one number to before another
+unfoldable pub word-place : Octets → (first last : ℕ) → ℕ
+word-place s first last = position (lower s) (map lower (words-from first (last - first)))

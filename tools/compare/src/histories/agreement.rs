@@ -1,12 +1,13 @@
 //! One history by both.
 
-use super::code::{given_row, make, read_answer, read_domain, read_row, Code};
+use super::code::{given_row, make, read_domain, read_row, Code};
 use super::history::{shown, Act, Call, History};
 use super::sums::Sums;
 use super::tally::Tally;
 use crate::proved::rows::{self as proved, Changed, DayList};
 use evaluator::refusal::Refusal;
 use evaluator::rows::{self, Row};
+use records::code::accepted;
 
 type Answer = Result<(), Refusal>;
 
@@ -68,7 +69,7 @@ impl<'c, C: Code> Run<'c, C> {
 
     fn call(&mut self, call: &Call, tally: &mut Tally) -> Result<(), String> {
         let changed = make(self.code, call, self.list, &mut self.rows);
-        let answer = read_answer(changed.refusal);
+        let answer = accepted(changed.refusal);
         let expected = self.expected(call);
         same_answer(answer, expected)?;
         self.same_list(call, &changed)?;

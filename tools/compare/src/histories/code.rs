@@ -3,8 +3,7 @@
 
 use super::history::Call;
 use crate::proved::rows as proved;
-use crate::proved::rows::{Changed, DayList, Refusal};
-use evaluator::refusal;
+use crate::proved::rows::{Changed, DayList};
 use evaluator::rows;
 
 /// A list of rows by its three functions.
@@ -87,14 +86,6 @@ pub fn read_row(row: &proved::Row) -> rows::Row {
             spf: seen.spf,
         },
         count: row.count,
-    }
-}
-
-/// Number 0 is no refusal.
-pub fn read_answer(refusal: Refusal) -> Result<(), refusal::Refusal> {
-    match refusal.number {
-        0 => Ok(()),
-        number => Err(refusal::Refusal::new(number, refusal.place)),
     }
 }
 

@@ -1,9 +1,9 @@
 //! How the calls of the histories were answered.
 
-use std::collections::BTreeMap;
 use std::fmt;
 
 use super::history::Call;
+use crate::refused::Refused;
 use evaluator::refusal::Refusal;
 
 /// Every refusal of a list's calls.
@@ -14,7 +14,7 @@ pub struct Tally {
     pub histories: u64,
     cleared: u64,
     entered: u64,
-    refused: BTreeMap<u8, u64>,
+    refused: Refused,
 }
 
 impl Tally {
@@ -23,12 +23,8 @@ impl Tally {
         match (call, answer) {
             (Call::Clear(_), Ok(())) => self.cleared += 1,
             (Call::Enter(_), Ok(())) => self.entered += 1,
-            (_, Err(refusal)) => *self.refused.entry(refusal.number).or_default() += 1,
+            (_, Err(refusal)) => self.refused.add(refusal.number),
         }
-    }
-
-    fn refused(&self, number: u8) -> u64 {
-        self.refused.get(&number).copied().unwrap_or(0)
     }
 
     /// The error is of an answer that never came.
@@ -36,7 +32,7 @@ impl Tally {
         let accepted = [("clearing", self.cleared), ("entry", self.entered)];
         let accepted = accepted.map(|(what, n)| (format!("{what} was accepted"), n));
         let refused = REFUSALS.map(|number| (format!("call was refused {number}"), number));
-        let refused = refused.map(|(what, number)| (what, self.refused(number)));
+        let refused = refused.map(|(what, number)| (what, self.refused.of(number)));
         match accepted.iter().chain(&refused).find(|(_, n)| *n == 0) {
             Some((what, _)) => Err(format!("no {what} in {} histories", self.histories)),
             None => Ok(()),
@@ -45,31 +41,24 @@ impl Tally {
 
     /// Both together.
     pub fn with(&self, other: &Tally) -> Tally {
-        let mut both = Tally {
+        Tally {
             histories: self.histories + other.histories,
             cleared: self.cleared + other.cleared,
             entered: self.entered + other.entered,
-            refused: self.refused.clone(),
-        };
-        for (number, n) in &other.refused {
-            *both.refused.entry(*number).or_default() += n;
+            refused: self.refused.with(&other.refused),
         }
-        both
     }
 }
 
 impl fmt::Display for Tally {
     fn fmt(&self, out: &mut fmt::Formatter<'_>) -> fmt::Result {
         let accepted = self.cleared + self.entered;
-        let calls = accepted + self.refused.values().sum::<u64>();
+        let calls = accepted + self.refused.all();
         write!(
             out,
-            "{} histories, {calls} calls ({accepted} accepted",
-            self.histories
-        )?;
-        for number in REFUSALS {
-            write!(out, ", {} refused {number}", self.refused(number))?;
-        }
-        write!(out, ")")
+            "{} histories, {calls} calls ({accepted} accepted{})",
+            self.histories,
+            self.refused.listed(&REFUSALS)
+        )
     }
 }

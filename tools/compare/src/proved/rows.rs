@@ -1,5 +1,7 @@
 //! The proved daily rows, by their three C functions.
 
+use records::proved::Refusal;
+
 /// "domain: 253 octets"
 pub const DOMAIN_OCTETS: usize = 253;
 
@@ -29,14 +31,6 @@ pub struct DayList {
     pub cleared: bool,
     pub domain: [u8; DOMAIN_OCTETS],
     pub length: usize,
-}
-
-/// A refusal; number 0 is none, the call is accepted.
-#[repr(C)]
-#[derive(Clone, Copy, Debug, Default, PartialEq, Eq)]
-pub struct Refusal {
-    pub number: u8,
-    pub place: usize,
 }
 
 /// What a call gives.

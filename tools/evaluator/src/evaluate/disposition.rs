@@ -1,55 +1,43 @@
 //! Steps b, e and f: a record's policies, the one that holds, and what is done.
 
 use crate::grounds::{Choice, PolicySource, PolicyTag};
-use crate::policy::{Policy, Request, Settings};
+use crate::policy::{Policy, Settings, Usable};
 use crate::start::Existence;
 use crate::verdict::{AppliedPolicy, Disposition, DmarcResult};
 
 /// The three policies of a record.
 pub struct Policies {
-    p: Policy,
-    sp: Option<Policy>,
-    np: Option<Policy>,
+    usable: Usable,
     /// Whether they read as none because the record is not usable.
     pub read_as_none: bool,
 }
 
 /// Step b. Nothing means permerror.
 pub fn policies(settings: &Settings) -> Option<Policies> {
-    if let Request::Valid(p) = settings.p {
-        if let (Ok(sp), Ok(np)) = (optional(settings.sp), optional(settings.np)) {
-            return Some(Policies {
-                p,
-                sp,
-                np,
-                read_as_none: false,
-            });
-        }
+    if let Some(usable) = settings.usable() {
+        return Some(Policies {
+            usable,
+            read_as_none: false,
+        });
     }
     // "Not usable but `rua` has a valid entry: all three policies read as none"
     settings.rua_valid.then_some(Policies {
-        p: Policy::None,
-        sp: Some(Policy::None),
-        np: Some(Policy::None),
+        usable: Usable {
+            p: Policy::None,
+            sp: Some(Policy::None),
+            np: Some(Policy::None),
+        },
         read_as_none: true,
     })
-}
-
-/// "`sp`, `np` are absent or valid"
-fn optional(request: Request) -> Result<Option<Policy>, ()> {
-    match request {
-        Request::Absent => Ok(None),
-        Request::Valid(policy) => Ok(Some(policy)),
-        Request::Invalid => Err(()),
-    }
 }
 
 /// Step e: the tag that gives the policy, before the last step.
 pub fn policy_source(policies: &Policies, own: bool, existence: Existence) -> PolicySource {
     let choice = |tag, policy| Choice { tag, policy };
-    let p = choice(PolicyTag::P, policies.p);
-    let sp = policies.sp.map(|policy| choice(PolicyTag::Sp, policy));
-    let np = policies.np.map(|policy| choice(PolicyTag::Np, policy));
+    let Usable { p, sp, np } = policies.usable;
+    let p = choice(PolicyTag::P, p);
+    let sp = sp.map(|policy| choice(PolicyTag::Sp, policy));
+    let np = np.map(|policy| choice(PolicyTag::Np, policy));
     let exists = sp.unwrap_or(p);
     let missing = np.unwrap_or(exists);
     match existence {

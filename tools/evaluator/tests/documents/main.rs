@@ -1,5 +1,5 @@
 //! Tests whose expected values come from the documents: document 01, Asks 1
-//! to 3 of document 02, the agreed readings (by their point numbers) and RFC 9989.
+//! to 4 of document 02, the agreed readings (by their point numbers) and RFC 9989.
 
 mod case;
 mod octets;
@@ -9,6 +9,7 @@ mod book;
 mod disposition;
 mod labels;
 mod policy_text;
+mod publishing;
 mod repeated_tags;
 mod report;
 mod rows;

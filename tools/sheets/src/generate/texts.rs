@@ -278,6 +278,16 @@ fn any(random: &mut Random, psd_rate: usize) -> Vec<u8> {
     }
 }
 
+/// A policy text of any kind, or one that is no policy record.
+pub fn any_text(random: &mut Random) -> Vec<u8> {
+    match random.below(20) {
+        0 | 1 => junk(random),
+        2 | 3 => repeating(random, 20),
+        4 if random.percent(20) => repeats::long_list(random, 4096),
+        _ => any(random, 20),
+    }
+}
+
 /// The texts of an answer: a policy record, maybe among junk or texts with a tag
 /// twice, or two, or none.
 fn texts(random: &mut Random, psd_rate: usize) -> Vec<Vec<u8>> {

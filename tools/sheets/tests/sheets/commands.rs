@@ -1,22 +1,12 @@
 //! The commands of `dmarc-tools` that read standard input.
 
-use std::io::Write;
-use std::process::{Command, Output, Stdio};
+use std::process::Output;
 
+use crate::program::output;
 use sheets::examples::MARKED;
 
 fn dmarc_tools(words: &[&str], input: &[u8]) -> Output {
-    let mut child = Command::new(env!("CARGO_BIN_EXE_dmarc-tools"))
-        .args(words)
-        .stdin(Stdio::piped())
-        .stdout(Stdio::piped())
-        .stderr(Stdio::piped())
-        .spawn()
-        .expect("the program starts");
-    let mut stdin = child.stdin.take().expect("standard input");
-    stdin.write_all(input).expect("written");
-    drop(stdin);
-    child.wait_with_output().expect("the program ends")
+    output(env!("CARGO_BIN_EXE_dmarc-tools"), words, input)
 }
 
 #[test]

@@ -4,6 +4,7 @@
 
 #[path = "../../../evaluator/tests/documents/octets.rs"]
 mod octets;
+mod program;
 mod stored;
 
 mod appendix_b;

@@ -15,6 +15,15 @@ fn help() {
     let help = dmarc(&["--help"]);
     assert_eq!(help.status.code(), Some(0));
     assert!(help.stdout.starts_with(b"usage:\n  ./dmarc FILE "));
+    let said = String::from_utf8_lossy(&help.stdout).into_owned();
+    for option in [
+        "--explain FILE",
+        "--sheet FILE",
+        "--write TAG=VALUE...",
+        "--read TEXT",
+    ] {
+        assert!(said.contains(&format!("\n  ./dmarc {option} ")), "{option}");
+    }
     assert!(help.stderr.is_empty());
 }
 
@@ -24,6 +33,12 @@ const MISUSES: &[(&[&str], i32, &str)] = &[
     (&["--explain"], 2, "dmarc: no file is named"),
     (&["a", "b"], 2, "dmarc: more than one file is named"),
     (&["--sheets", "a"], 2, "dmarc: unknown option: --sheets"),
+    (&["--read"], 2, "dmarc: no text is given"),
+    (
+        &["--read", "v=DMARC1;", "p=none"],
+        2,
+        "dmarc: more than one text is given; put it in quotes",
+    ),
     (&["no such file"], 1, "dmarc: no such file: no such file"),
     (&["/"], 1, "dmarc: a directory, not a file: /"),
 ];

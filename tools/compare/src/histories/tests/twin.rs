@@ -1,23 +1,10 @@
 //! Daily rows that keep the rules, or break one of them.
 
 use crate::histories::code::Code;
-use crate::proved::rows::{Changed, DayList, Entry, Finding, Refusal, Row, Seen};
+use crate::proved::rows::{Changed, DayList, Entry, Finding, Row, Seen};
+use crate::wrongs::wrongs;
 use evaluator::domain::fault;
-
-/// The rules that can be broken, each once.
-macro_rules! wrongs {
-    ($($wrong:ident)*) => {
-        /// A rule that is broken.
-        #[derive(Clone, Copy, Debug, PartialEq, Eq)]
-        pub enum Wrong {
-            Nothing,
-            $($wrong,)*
-        }
-
-        /// All that is broken.
-        pub const ALL: &[Wrong] = &[$(Wrong::$wrong,)*];
-    };
-}
+use records::proved::Refusal;
 
 wrongs! {
     FreeRowMatches

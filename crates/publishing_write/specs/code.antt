@@ -1,0 +1,2 @@
+-- Definitions that only code needs.
+pub mod TagWords

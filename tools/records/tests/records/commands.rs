@@ -1,0 +1,82 @@
+//! The program `dmarc-records`: what it prints, where, and how it ends.
+
+use crate::program::output;
+
+/// Exit status, standard output and standard error.
+fn ends(words: &[&str], input: &[u8]) -> (Option<i32>, String, String) {
+    let ended = output(env!("CARGO_BIN_EXE_dmarc-records"), words, input);
+    let text = |octets: Vec<u8>| String::from_utf8(octets).expect("words in UTF-8");
+    (ended.status.code(), text(ended.stdout), text(ended.stderr))
+}
+
+/// Ends with 0 and prints this alone.
+fn prints(words: &[&str], input: &[u8], expected: &str) {
+    let expected = (Some(0), expected.to_string(), String::new());
+    assert_eq!(ends(words, input), expected);
+}
+
+/// Ends with 1, and says this on standard error alone.
+fn fails(words: &[&str], input: &[u8], expected: &str) {
+    let expected = (Some(1), String::new(), expected.to_string());
+    assert_eq!(ends(words, input), expected);
+}
+
+#[test]
+fn a_record_is_written() {
+    prints(
+        &["write", "p=reject", "sp=none", "rua=mailto:a@example.com"],
+        b"",
+        "v=DMARC1; p=reject; sp=none; rua=mailto:a@example.com\n",
+    );
+    fails(
+        &["write", "p=often", "pct=50"],
+        b"",
+        "p: \"often\" is not one of none, quarantine, reject\n\
+         unknown tag pct; the tags are p, sp, np, adkim, aspf, psd, t, rua\n",
+    );
+    fails(
+        &["write"],
+        b"",
+        "p is missing; it is one of none, quarantine, reject\n",
+    );
+}
+
+const LINES: &str = "p: absent
+sp: absent
+np: absent
+adkim: r, the default
+aspf: r, the default
+psd: u, the default
+t: n, the default
+rua: absent
+usable: no, since p is absent; rua has no valid entry, so the result is permerror
+";
+
+#[test]
+fn a_record_is_read_usable_or_not() {
+    prints(&["read"], b"v=DMARC1", LINES);
+    // One line end is not of the text; a second one is.
+    prints(&["read"], b"v=DMARC1\n", LINES);
+    let (status, _, said) = ends(&["read"], b"v=DMARC1\n\n");
+    assert_eq!(status, Some(1));
+    assert!(said.starts_with("no policy record: its first part is \"v=DMARC1\\x0a\""));
+}
+
+#[test]
+fn no_record_ends_with_1() {
+    fails(
+        &["read"],
+        b"v=DMARC1; p=none; P=none\n",
+        "no policy record: tag p is written twice\n",
+    );
+}
+
+#[test]
+fn misuses_get_the_usage() {
+    let words: [&[&str]; 3] = [&[], &["read", "v=DMARC1"], &["walk"]];
+    for words in words {
+        let (status, printed, said) = ends(words, b"");
+        assert_eq!((status, printed.as_str()), (Some(1), ""), "{words:?}");
+        assert!(said.starts_with("usage:\n  dmarc-records write "));
+    }
+}

@@ -1,0 +1,12 @@
+//! Tests of the numbers, the words and the commands. What must come out is
+//! written by hand from documents 01 and 02 and the agreed readings.
+
+#[path = "../../../sheets/tests/sheets/program.rs"]
+mod program;
+
+mod agreeing;
+mod commands;
+mod numbers;
+mod reading;
+mod readme;
+mod writing;
