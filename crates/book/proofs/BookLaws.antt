@@ -6,9 +6,8 @@ use mathlib.Core.Option.{Option, none as nothing, some as just, Option·none-ne-
 use Prim.Native.Nat.{_+_, _*_, _≤_}
 use lib.Dec.{leb}
 use borrow.Author.Tests.{le-leb}
-use Rattle.octets.proofs.TextLaws.{same-self}
 use lib.ListN.{length}
-use Rattle.octets.specs.Octets.{Octets, same, lower, is-nothing, same-text, if_then_else_}
+use Rattle.octets.specs.Octets.{Octets, is-nothing, same-text, if_then_else_}
 use Rattle.octets.specs.Refusing.{OrRefused, ok, not-ok, refusal}
 use Rattle.octets.specs.declared.Refusal.{Refusal}
 use Rattle.octets.specs.declared.Written.{Written}
@@ -18,6 +17,7 @@ use Rattle.lookup.specs.Claims.{Distinct, Ends, now, later}
 use Rattle.lookup.proofs.NameLaws.{once-new, once-seen, once-distinct, member-last}
 use Rattle.lookup.proofs.RunLaws.{asked-so-far, names-append, needs-injective, needs-open, find-not-member, needs-prefix, needs-short, has-list, has-value, has≢needs, ends}
 use Rattle.lookup.proofs.ReadingLaws.{list-reading}
+use Rattle.domain.specs.Domain.{without-dot}
 use Rattle.txt.specs.declared.Status.{Status}
 use Rattle.txt.specs.Answers.{Answer, answer-of, texts, scratch-after, reply}
 use Rattle.walk.proofs.Claimed.{walk-claims}
@@ -70,7 +70,7 @@ answer-cases P b name status bytes scratch stays keeps = by-asked (b .asked) ref
     by-asked : (o : Option Name) → b .asked ≡ o → P (answer-asked b name a scratch o)
     by-asked nothing e = stays (refusal 5 0)
     by-asked (just n) e =
-        elim (same-text name n) as (λ t. P (if t then answer-kept b n a scratch (texts a) else (b, given (refused (refusal 5 0)) scratch))) [
+        elim (same-text (without-dot name) n) as (λ t. P (if t then answer-kept b n a scratch (texts a) else (b, given (refused (refusal 5 0)) scratch))) [
           | true ↦ by-texts n e (texts a)
           | false ↦ stays (refusal 5 0)
         ]
@@ -328,10 +328,11 @@ comes-after m cs = comes-from (book-after m cs .message) (book-after m cs .answe
 
 -- ------------------------------------------------------------------ accepted, and refused
 
-accepted-now : (b : Book) (n : Name) → b .asked ≡ just n → (status : Status) (bytes scratch : Octets) → is-nothing (texts (answer-of status bytes)) ≡ false → 4096 ≤ length scratch
-    → book-answer b n status bytes scratch .1 .back ≡ accepted
-unfolding book-answer answer-asked answer-kept same-text is-nothing
-accepted-now b n e status bytes scratch h k = rw (e, same-self (lower n)) (go (record { message = b .message; answers = b .answers; asked = just n }) (texts (answer-of status bytes)) h)
+accepted-now : (b : Book) (n : Name) → b .asked ≡ just n → (name : Octets) → same-text (without-dot name) n ≡ true
+    → (status : Status) (bytes scratch : Octets) → is-nothing (texts (answer-of status bytes)) ≡ false → 4096 ≤ length scratch
+    → book-answer b name status bytes scratch .1 .back ≡ accepted
+unfolding book-answer answer-asked answer-kept is-nothing
+accepted-now b n e name f status bytes scratch h k = rw (e, f) (go (record { message = b .message; answers = b .answers; asked = just n }) (texts (answer-of status bytes)) h)
   where
     go : (b : Book) (o : Option (List Octets)) → is-nothing o ≡ false → answer-kept b n (answer-of status bytes) scratch o .1 .back ≡ accepted
     go b nothing f = absurd (false≢true (sym f))

@@ -1,18 +1,18 @@
 -- What is claimed of 01's book book-after every list of calls (the mission, demand 3).
 use mathlib.Core.Path.{_≡_}
 use mathlib.Core.List.{List, [], _∷_, _++_}
-use mathlib.Core.Bool.{false}
+use mathlib.Core.Bool.{true, false}
 use mathlib.Core.Option.{Option, none as nothing, some as just}
 use Prim.Native.Nat.{_+_, _*_, _≤_, _<_}
 use lib.ListN.{length}
-use Rattle.octets.specs.Octets.{Octets, is-nothing}
+use Rattle.octets.specs.Octets.{Octets, is-nothing, same-text}
 use Rattle.octets.specs.declared.Refusal.{Refusal}
 use Rattle.octets.specs.Refusing.{refusal}
 use Rattle.lookup.specs.Lookup.{Name, value, once, list, names, needs, has, Completes}
 use Rattle.lookup.specs.Claims.{Distinct}
 use Rattle.txt.specs.declared.Status.{Status}
 use Rattle.txt.specs.Answers.{Answer, answer-of, texts, reply}
-use Rattle.domain.specs.Domain.{Domain}
+use Rattle.domain.specs.Domain.{Domain, without-dot}
 use Rattle.walk.specs.Walk.{organizational-domain}
 use Rattle.verdict.specs.Message.{Message}
 use Rattle.verdict.specs.Verdict.{Verdict, separate-walks}
@@ -90,9 +90,10 @@ pub record BookClaims (m : Message) (cs : List Call) : Type 0 where
       → length (names (book-after m cs .answers)) < length (list α (separate-walks m))
   -- and not before it, since at the verdict every name of the list is answered
   pub answered : (v : Verdict) → standing (book-after m cs) ≡ has v → (α : Name → Answer) → Completes α (book-after m cs .answers) → list α (separate-walks m) ≡ names (book-after m cs .answers)
-  -- an answer that can be read, for the name now asked, with scratch enough, is accepted
-  pub accepts : (n : Name) → book-after m cs .asked ≡ just n → (status : Status) (bytes scratch : Octets) → is-nothing (texts (answer-of status bytes)) ≡ false → 4096 ≤ length scratch
-      → book-answer (book-after m cs) n status bytes scratch .1 .back ≡ accepted
+  -- an answer that can be read, for the name now asked, in either case and with a final dot or without, with scratch enough, is accepted
+  pub accepts : (n : Name) → book-after m cs .asked ≡ just n → (name : Octets) → same-text (without-dot name) n ≡ true
+      → (status : Status) (bytes scratch : Octets) → is-nothing (texts (answer-of status bytes)) ≡ false → 4096 ≤ length scratch
+      → book-answer (book-after m cs) name status bytes scratch .1 .back ≡ accepted
   -- "A refusal leaves the evaluation and lent memory unchanged"
   pub refused-stands : (c : Call) (r : Refusal) → book-call (book-after m cs) c .1 .back ≡ refused r
       → (book-call (book-after m cs) c .0 ≡ book-after m cs) × (book-call (book-after m cs) c .1 .memory ≡ lent c)

@@ -1,20 +1,20 @@
 -- The asked names of a domain that keeps the rule keep it too.
-use mathlib.Core.Path.{_≡_, refl, ap, ap₂, sym, _∙_}
-use mathlib.Core.List.{List, [], _∷_, _++_, map}
-use mathlib.Core.Bool.{Bool, true, false, _&&_, _||_, not, or-true}
+use mathlib.Core.Path.{_≡_, refl, ap, sym, _∙_}
+use mathlib.Core.List.{List, [], _∷_, map}
+use mathlib.Core.Bool.{Bool, true, false, _&&_, or-true}
 use mathlib.Core.Option.{Option, none as nothing, some as just}
 use Prim.Native.Nat.{ℕ, zero, suc, _+_, _-_, _≤_, _<_}
 use native.Mathlib.Omega.{arith}
 use lib.Dec.{eqb, leb}
-use lib.ListN.{length, drop, getD, length-append}
-use borrow.Author.Tests.{le-leb, leb-true, eq-eqb, ne-eqb, eqb-true, eqb-false}
-use Rattle.octets.specs.Octets.{Octets, octets, all, any, between, is-letter, is-digit, one-of, made-of, is-empty, lower, lower-octet, onto-first, split}
+use lib.ListN.{length, drop, getD}
+use borrow.Author.Tests.{le-leb, leb-true, ne-eqb}
+use Rattle.octets.specs.Octets.{Octets, octets, all, any, between, is-letter, is-digit, one-of, made-of, lower, lower-octet, onto-first, split}
 use Rattle.octets.proofs.TextLaws.{lower-length}
 use Rattle.octets.proofs.PartLaws.{split-found, split-other}
 use Rattle.domain.specs.Domain.{Domain, domain-octet, labels, good-label, first-bad, domain-fault, is-domain, label-count, last-labels, targets, can-ask, asked-name}
 use Rattle.domain.specs.Claims.{AskedNames}
 use Rattle.domain.proofs.SplitLaws.{split-head, split-between}
-use Rattle.domain.proofs.RuleLaws.{fault-next, no-fault-here, no-fault, length-fault, rule-fault, kept-or-not}
+use Rattle.domain.proofs.RuleLaws.{fault-next, no-fault-here, no-fault, length-fault, rule-fault, kept-or-not, domain-short}
 use Rattle.domain.proofs.DomainLaws.{labels-left, target-count, target-first, target-next}
 
 and-true : (a b : Bool) → (a && b) ≡ true → (a ≡ true) × (b ≡ true)
@@ -106,15 +106,19 @@ rule-no-fault d e = go (domain-fault d) refl
     go nothing f = f
     go (just at) f = let g : false ≡ true = sym (rule-fault d ∙ ap kept-or-not f) ∙ e in let z : _≡_ {A = ℕ} 0 1 = cc in absurd (omega arith)
 
-all-good : (d : Domain) → is-domain d ≡ true → all good-label (labels d) ≡ true
+pub all-good : (d : Domain) → is-domain d ≡ true → all good-label (labels d) ≡ true
 all-good d e = good-labels 0 (labels d) (no-fault d (rule-no-fault d e))
 
 keeps-rule : (d : Domain) → all good-label (labels d) ≡ true → length d ≤ 253 → is-domain d ≡ true
 unfolding kept-or-not
 keeps-rule d g h = rw (rule-fault d, length-fault d (none-bad 0 (labels d) g), le-leb (length d) 253 h)
 
+-- a domain in lower case
+pub lower-domain : (d : Domain) → is-domain d ≡ true → is-domain (lower d) ≡ true
+lower-domain d e = keeps-rule (lower d) (rw (lower-labels d) (good-lower (labels d) (all-good d e))) (omega (arith, lower-length d, domain-short d e))
+
 -- the labels of a target are labels of its domain
-target-good : (d : Domain) → all good-label (labels d) ≡ true → (k : ℕ) → k < length (targets d) → all good-label (labels (getD (targets d) k [])) ≡ true
+pub target-good : (d : Domain) → all good-label (labels d) ≡ true → (k : ℕ) → k < length (targets d) → all good-label (labels (getD (targets d) k [])) ≡ true
 unfolding last-labels
 target-good d g zero h = rw (target-first d) g
 target-good d g (suc k) h =
@@ -130,7 +134,7 @@ prefix-good : good-label (octets "_dmarc") ≡ true
 unfolding good-label made-of all octets domain-octet is-letter between is-digit one-of any
 prefix-good = refl
 
-name-good : (t : Domain) → all good-label (labels t) ≡ true → all good-label (labels (asked-name t)) ≡ true
+pub name-good : (t : Domain) → all good-label (labels t) ≡ true → all good-label (labels (asked-name t)) ≡ true
 unfolding all
 name-good t g = rw (name-labels t, prefix-good) (good-lower (labels t) g)
 

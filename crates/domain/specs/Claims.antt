@@ -1,10 +1,11 @@
--- What is claimed of the targets of every walk and of the names asked, whatever the number of labels.
+-- What is claimed of the targets of every walk and of the names asked, whatever the number of labels, and of a domain's final dot.
 use mathlib.Core.Path.{_≡_}
-use mathlib.Core.List.{[]}
+use mathlib.Core.List.{[], _++_}
 use mathlib.Core.Bool.{true}
 use Prim.Native.Nat.{ℕ, _-_, _<_, min}
 use lib.ListN.{length, drop, getD}
-use Rattle.domain.specs.Domain.{Domain, is-domain, label-count, begin-of, targets, can-ask, asked-name}
+use Rattle.octets.specs.Octets.{octets}
+use Rattle.domain.specs.Domain.{Domain, without-dot, is-domain, label-count, begin-of, targets, can-ask, asked-name}
 
 pub record WalkTargets (d : Domain) : Type 0 where
   -- "looks at the domain"
@@ -21,3 +22,10 @@ unfoldable pub AskedNames : Domain → Type 0
 AskedNames d =
     is-domain d ≡ true
     → (k : ℕ) → k < length (targets d) → can-ask (getD (targets d) k []) ≡ true → is-domain (asked-name (getD (targets d) k [])) ≡ true
+
+-- a domain as it is taken (document 02, Ask 5)
+pub record Taken (d : Domain) : Type 0 where
+  -- "end in one dot, which is dropped": that one alone, whatever stands before it
+  pub dropped : without-dot (d ++ octets ".") ≡ d
+  -- "no dot at either end": nothing is dropped from a domain that keeps the rule
+  pub kept : is-domain d ≡ true → without-dot d ≡ d

@@ -16,7 +16,7 @@ use Rattle.octets.specs.declared.Written.{Written}
 use Rattle.octets.specs.Lent.{WritesIf}
 use Rattle.lookup.specs.Lookup.{Name}
 use Rattle.domain.specs.declared.Octet.{Octet}
-use Rattle.domain.specs.Domain.{asked-name}
+use Rattle.domain.specs.Domain.{without-dot, asked-name}
 use Rattle.octets.proofs.PartLaws.{clipped}
 use Rattle.txt.specs.declared.Status.{Status}
 use Rattle.txt.specs.declared.Reply.{Reply}
@@ -188,7 +188,7 @@ module _ (v : View) (name : Octets) (status : Status) (bytes scratch : Octets) w
   unfolding is-asked view-answer view-answer-asked
   answer-not-asked = go (v .asked)
     where
-      go : (o : Option Name) → elim o as (λ _. Bool) [ nothing ↦ false | just n ↦ same-text name n ] ≡ false
+      go : (o : Option Name) → elim o as (λ _. Bool) [ nothing ↦ false | just n ↦ same-text (without-dot name) n ] ≡ false
           → view-answer-asked v name (answer-of status bytes) scratch o ≡ (v, given (refused (refusal 5 0)) scratch)
       go nothing h = refl
       go (just n) h = rw h
@@ -199,7 +199,7 @@ module _ (v : View) (name : Octets) (status : Status) (bytes scratch : Octets) w
     where
       go : (o : Option Name) → view-answer-asked v name (answer-of status bytes) scratch o ≡ (v, given (refused (refusal 5 0)) scratch)
       go nothing = refl
-      go (just n) = rw (h, and-false (same-text name n))
+      go (just n) = rw (h, and-false (same-text (without-dot name) n))
 
   answer-taken : (n : Name) → v .asked ≡ just n → is-asked v name ≡ true → has-room v ≡ true
       → view-answer v name status bytes scratch ≡ view-taken v n (left-after (answer-of status bytes) scratch) (taken (answer-of status bytes) scratch)
@@ -207,11 +207,11 @@ module _ (v : View) (name : Octets) (status : Status) (bytes scratch : Octets) w
   answer-taken n f h k = rw (f, rw f at h, k)
 
 -- whether a name is now asked, by what is stored
-pub asked-stored : (e : Evaluation) (name : Octets) → (e .asked && same-text name (asked-name (drop (e .place .0) (slot (e .domains) (e .numbers) (e .walk))))) ≡ is-asked (view e) name
+pub asked-stored : (e : Evaluation) (name : Octets) → (e .asked && same-text (without-dot name) (asked-name (drop (e .place .0) (slot (e .domains) (e .numbers) (e .walk))))) ≡ is-asked (view e) name
 unfolding view is-asked asked-in marked
 asked-stored e name = go (e .asked)
   where
-    go : (b : Bool) → (b && same-text name (marked e (e .walk) (e .place))) ≡ elim (asked-in e b) as (λ _. Bool) [ nothing ↦ false | just n ↦ same-text name n ]
+    go : (b : Bool) → (b && same-text (without-dot name) (marked e (e .walk) (e .place))) ≡ elim (asked-in e b) as (λ _. Bool) [ nothing ↦ false | just n ↦ same-text (without-dot name) n ]
     go true = refl
     go false = refl
 
@@ -232,7 +232,7 @@ module _ (e : Evaluation) (name : Octets) (status : Status) (bytes scratch : Oct
       unfolding view is-asked asked-in
       now-marked = go (e .asked) asked
         where
-          go : (b : Bool) → elim (asked-in e b) as (λ _. Bool) [ nothing ↦ false | just n ↦ same-text name n ] ≡ true → asked-in e b ≡ just (marked e (e .walk) (e .place))
+          go : (b : Bool) → elim (asked-in e b) as (λ _. Bool) [ nothing ↦ false | just n ↦ same-text (without-dot name) n ] ≡ true → asked-in e b ≡ just (marked e (e .walk) (e .place))
           go true h = refl
           go false h = absurd (false≢true h)
 

@@ -4,7 +4,7 @@ ghost use mathlib.Core.Bool.{_&&_};
 ghost use Prim.Native.Nat.{_<_};
 ghost use lib.ListN.{drop};
 ghost use Rattle.octets.specs.Octets.{same-text};
-ghost use Rattle.domain.specs.Domain.{asked-name};
+ghost use Rattle.domain.specs.Domain.{without-dot, asked-name};
 ghost use Rattle.alignment_stored.specs.code.Stored.{slot};
 ghost use Rattle.book.specs.Book.{answer, given};
 ghost use Rattle.evaluation.specs.code.View.{view, marked, begin-of-slot, keeping, Does, acceptance-back};
@@ -19,7 +19,7 @@ use txt::Taken;
 // The most names that one message can need: eight for each walk.
 const MOST_NAMES: usize = 136;
 
-// Whether a name is the one now asked.
+// Whether a name, without a final dot, is the one now asked.
 fn is_asked<'a>(
     domains: &'a [u8],
     numbers: &'a [usize],
@@ -28,13 +28,14 @@ fn is_asked<'a>(
     place: Octet,
     name: &'a [u8],
 ) -> bool
-    ensures { λ r. ⌜ r ≡ (asked && same-text (now (name .entry)) (asked-name (drop (place .0) (slot (now (domains .entry)) (now (numbers .entry)) walk)))) ⌝ }
+    ensures { λ r. ⌜ r ≡ (asked && same-text (without-dot (now (name .entry))) (asked-name (drop (place .0) (slot (now (domains .entry)) (now (numbers .entry)) walk)))) ⌝ }
 {
     if !asked {
         return false;
     }
     let d = alignment_stored::slot(domains, numbers, walk);
-    domain_names::is_name(name, d, place)
+    let given = domain_taken::without_dot(name);
+    domain_names::is_name(given, d, place)
 }
 
 // Where a walk's domain begins among the stored domains.

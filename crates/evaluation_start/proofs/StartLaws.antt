@@ -9,7 +9,7 @@ use native.Mathlib.Numerals.{add-one}
 use native.Mathlib.Nat.{zero-add}
 use lib.Dec.{eqb}
 use lib.ListN.{length, take, drop, set, length-append, length-drop, length-set}
-use lib.Seq.{drop-drop, take-nil, take-take, drop-at, length-take-le, take-append-seam, take-append-le, drop-append-le, getD-set-same, getD-set-other}
+use lib.Seq.{drop-drop, take-take, drop-at, length-take-le, take-append-seam, take-append-le, drop-append-le, getD-set-same, getD-set-other}
 use borrow.Author.Tests.{le-leb, lt-leb}
 use Rattle.octets.specs.Octets.{Octets, any, lower, part-of}
 use Rattle.octets.specs.Framing.{size-of, body-of, after-record, is-whole}
@@ -20,7 +20,7 @@ use Rattle.octets_append.specs.code.Appending.{fits-at, Appends}
 use Rattle.octets.proofs.ListLaws.{any-append, drop-take, numbered-in, numbered-out}
 use Rattle.octets.proofs.RefusingLaws.{bind-bind}
 use Rattle.octets.proofs.TextLaws.{lower-length}
-use Rattle.domain.specs.Domain.{domain-fault, is-domain, label-count}
+use Rattle.domain.specs.Domain.{without-dot, domain-fault, is-domain, label-count}
 use Rattle.domain_rule.specs.code.Checking.{checked}
 use Rattle.domain_rule.specs.declared.Checked.{Checked}
 use Rattle.domain.specs.declared.Labels.{Labels}
@@ -136,27 +136,27 @@ author-checked d = elim (domain-fault d) as (λ o. elim o as (λ _. OrRefused (U
   | just at ↦ refl
 ]
 
--- each refusal in its order, and the message
-module _ (author : Octets) (existence support : ℕ) {r : Checked} (e : r ≡ checked author) where
+-- each refusal in its order, and the message; of the author, the text without its dot
+module _ (author : Octets) (existence support : ℕ) {d : Octets} (q : d ≡ without-dot author) {r : Checked} (e : r ≡ checked d) where
   pub bad-author : (at : Octet) → r ≡ Checked.Bad at → opening author existence support ≡ not-ok (refusal 1 (at .0))
   unfolding opening author-by _>>=_
-  bad-author at f = rw (author-checked author, ← e, f)
+  bad-author at f = rw (← q, author-checked d, ← e, f)
 
   module _ (n : Labels) (f : r ≡ Checked.Good n) where
-    pub short-author : length author ≤ 253
-    short-author = domain-short author (sym (good-kept author r e n f))
+    pub short-author : length d ≤ 253
+    short-author = domain-short d (sym (good-kept d r e n f))
 
     pub bad-existence : 2 < existence → opening author existence support ≡ not-ok (refusal 3 255)
     unfolding opening author-by or-refuse _>>=_
-    bad-existence h = rw (author-checked author, ← e, f, numbered-out existences existence (omega (arith, h)))
+    bad-existence h = rw (← q, author-checked d, ← e, f, numbered-out existences existence (omega (arith, h)))
 
     pub bad-support : existence ≤ 2 → 1 < support → opening author existence support ≡ not-ok (refusal 3 255)
     unfolding opening author-by or-refuse _>>=_
-    bad-support h k = rw (author-checked author, ← e, f, existence-listed existence h, numbered-out supports support (omega (arith, k)))
+    bad-support h k = rw (← q, author-checked d, ← e, f, existence-listed existence h, numbered-out supports support (omega (arith, k)))
 
-    pub good-opening : existence ≤ 2 → support ≤ 1 → opening author existence support ≡ ok (record { author = lower author; existence = existence-in existence; support = eqb support 1; identifiers = [] })
+    pub good-opening : existence ≤ 2 → support ≤ 1 → opening author existence support ≡ ok (record { author = lower d; existence = existence-in existence; support = eqb support 1; identifiers = [] })
     unfolding opening author-by or-refuse _>>=_
-    good-opening h k = rw (author-checked author, ← e, f, existence-listed existence h, support-listed support k)
+    good-opening h k = rw (← q, author-checked d, ← e, f, existence-listed existence h, support-listed support k)
 
 -- what the code promises, of a refusal and of a message
 module _ (e : Evaluation) {u : OrRefused Message} where
@@ -204,13 +204,14 @@ module _ (index : ℕ) (seen : Bool) (g : GivenIdentifier) where
             go (suc zero) l f = and-false seen
             go (suc (suc n)) l f = absurd (omega arith)
 
-        pub bad-domain : is-domain (g .domain) ≡ false → identifier-from index seen g ≡ not-ok (refusal 2 index)
-        unfolding identifier-from or-refuse refuse-if _>>=_
-        bad-domain e = rw (kind-listed (g .kind) k, outcome-listed (g .outcome) o, not-too-many, e)
+        module _ {d : Octets} (q : d ≡ without-dot (g .domain)) where
+          pub bad-domain : is-domain d ≡ false → identifier-from index seen g ≡ not-ok (refusal 2 index)
+          unfolding identifier-from or-refuse refuse-if _>>=_
+          bad-domain e = rw (kind-listed (g .kind) k, outcome-listed (g .outcome) o, not-too-many, ← q, e)
 
-        pub good-identifier : is-domain (g .domain) ≡ true → identifier-from index seen g ≡ ok (record { kind = kind-in (g .kind); outcome = outcome-in (g .outcome); domain = lower (g .domain) })
-        unfolding identifier-from or-refuse refuse-if _>>=_
-        good-identifier e = rw (kind-listed (g .kind) k, outcome-listed (g .outcome) o, not-too-many, e)
+          pub good-identifier : is-domain d ≡ true → identifier-from index seen g ≡ ok (record { kind = kind-in (g .kind); outcome = outcome-in (g .outcome); domain = lower d })
+          unfolding identifier-from or-refuse refuse-if _>>=_
+          good-identifier e = rw (kind-listed (g .kind) k, outcome-listed (g .outcome) o, not-too-many, ← q, e)
 
 -- to a message that is held
 module _ {e : Evaluation} {m : Message} (h : Holds e m) (index : ℕ) (c : index ≡ min (e .terms .identifiers) 16) where

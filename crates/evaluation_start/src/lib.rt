@@ -56,7 +56,8 @@ fn hold(author: &[u8], existence: u8, support: bool) -> Evaluation
 fn open(e: Evaluation, author: &[u8], existence: u8, support: u8) -> Changed
     ensures { λ r. ⌜ Opens e (opening (now (author .entry)) existence support) r ⌝ }
 {
-    match domain_rule::check(author) {
+    let d = domain_taken::without_dot(author);
+    match domain_rule::check(d) {
         Checked::Bad(at) => evaluation_state::refused(e, 1, at.0),
         Checked::Good(_) => {
             if 2 < existence {
@@ -66,7 +67,7 @@ fn open(e: Evaluation, author: &[u8], existence: u8, support: u8) -> Changed
                 return evaluation_state::refused(e, 3, 255);
             }
             Changed {
-                evaluation: hold(author, existence, support == 1),
+                evaluation: hold(d, existence, support == 1),
                 acceptance: Acceptance::Accepted,
             }
         }
@@ -117,8 +118,8 @@ fn store(e: Evaluation, kind: u8, outcome: u8, d: &[u8]) -> Evaluation
 }
 
 // Adds an identifier.
-fn add(e: Evaluation, kind: u8, outcome: u8, d: &[u8]) -> Changed
-    ensures { λ r. ⌜ ((m : Message) → Holds e m → Opens e (adding m (record { kind = kind; outcome = outcome; domain = now (d .entry) })) r) ⌝ }
+fn add(e: Evaluation, kind: u8, outcome: u8, domain: &[u8]) -> Changed
+    ensures { λ r. ⌜ ((m : Message) → Holds e m → Opens e (adding m (record { kind = kind; outcome = outcome; domain = now (domain .entry) })) r) ⌝ }
 {
     let terms = e.terms;
     let index = text_parts::smaller(terms.identifiers, 16);
@@ -136,6 +137,7 @@ fn add(e: Evaluation, kind: u8, outcome: u8, d: &[u8]) -> Changed
             return evaluation_state::refused(e, 4, index);
         }
     }
+    let d = domain_taken::without_dot(domain);
     if !domain_rule::is_domain(d) {
         return evaluation_state::refused(e, 2, index);
     }

@@ -6,6 +6,7 @@ use Prim.Native.Nat.{_≤_}
 use lib.ListN.{length}
 use Rattle.octets.specs.Octets.{Octets, same-text}
 use Rattle.octets.specs.Refusing.{ok}
+use Rattle.domain.specs.Domain.{without-dot}
 use Rattle.txt.specs.declared.Status.{Status}
 use Rattle.records.specs.Sheet.{Entry, answer-entry, entries}
 
@@ -15,3 +16,6 @@ pub record SheetClaims : Type 0 where
   -- "one name answered twice" is broken, also where it is written in another case
   pub twice : (sheet : Octets) (a b c : List Entry) (m n : Octets) (s u : Status) (x y : Octets)
       → entries sheet ≡ ok (a ++ answer-entry m s x ∷ (b ++ answer-entry n u y ∷ c)) → same-text m n ≡ false
+  -- "`example.com` and `example.com.` .. on a sheet both answered is refusal 8": each is kept without the dot, so they are one name
+  pub no-dot : (sheet : Octets) (a b : List Entry) (n : Octets) (s : Status) (x : Octets)
+      → entries sheet ≡ ok (a ++ answer-entry n s x ∷ b) → without-dot n ≡ n

@@ -13,6 +13,7 @@ use borrow.Author.Tests.{ne-eqb}
 use Rattle.octets.specs.Octets.{Octets, octets, same, same-text, part-of, if_then_else_}
 use Rattle.octets.specs.Framing.{mark-of, size-of, body-of, after-record}
 use Rattle.octets.proofs.FramingLaws.{after-length}
+use Rattle.domain.specs.Domain.{without-dot}
 use Rattle.txt.specs.declared.Status.{Status}
 use Rattle.records.specs.Sheet.{status-of}
 use Rattle.records_fields.specs.code.Layout.{name-in, answers-name, found-body, status-or-error, status-in, bytes-in, identifiers-size, identifiers-part}
@@ -23,7 +24,7 @@ use Rattle.records_fields.specs.code.Layout.{name-in, answers-name, foun
 pub found-octet : (s : Octets) (i a b : ℕ) → i < length s → getD s i a ≡ getD s i b
 found-octet s i a b h = cc (drop-cons s i a h, drop-cons s i b h)
 
-pub name-part : (body : Octets) (size : ℕ) → size ≡ getD body 1 0 → part-of body 2 (2 + size) ≡ name-in body
+pub name-part : (body : Octets) (size : ℕ) → size ≡ getD body 1 0 → without-dot (part-of body 2 (2 + size)) ≡ name-in body
 unfolding part-of name-in
 name-part body size e = let f : 2 + size - 2 ≡ size = omega arith in rw (f, e)
 

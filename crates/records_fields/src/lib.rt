@@ -45,11 +45,12 @@ pub fn after_record(t: &[u8]) -> &[u8]
     text_parts::skip(t, 4 + size(t))
 }
 
-// The name in an answer's body.
+// The name in an answer's body, without a final dot.
 pub fn name_in(body: &[u8]) -> &[u8]
     ensures { λ r. ⌜ now r ≡ name-in (now (body .entry)) ⌝ }
 {
-    text_parts::part(body, 2, 2 + octet_at(body, 1, 0) as usize)
+    let name = text_parts::part(body, 2, 2 + octet_at(body, 1, 0) as usize);
+    domain_taken::without_dot(name)
 }
 
 // The status of an answer's body; error for an empty one.

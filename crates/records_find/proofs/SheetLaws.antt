@@ -3,18 +3,18 @@ use mathlib.Core.Path.{_≡_, refl, ap, ap₂, sym, _∙_, subst}
 use mathlib.Core.List.{List, [], _∷_, _++_, map, flatten}
 use mathlib.Core.Bool.{Bool, true, false, _&&_}
 use mathlib.Core.Option.{Option, none as nothing, some as just}
-use Prim.Native.Nat.{ℕ, zero, suc, _+_, _-_, _*_, _≤_, _<_}
+use Prim.Native.Nat.{ℕ, zero, suc, _+_, _-_, _≤_, _<_}
 use native.Mathlib.Omega.{arith}
 use lib.Dec.{leb, ltb}
 use lib.ListN.{length, take, drop, getD, length-take}
-use borrow.Author.Tests.{ne-eqb, lt-ltb, le-leb}
+use borrow.Author.Tests.{lt-ltb}
 use Rattle.octets.specs.Octets.{Octets, octets, same, same-text, any, if_then_else_, is-empty}
 use Rattle.octets.specs.Framing.{mark-of, size-of, body-of, after-record}
 use Rattle.octets.specs.Refusing.{ok, refusal}
 use Rattle.octets.proofs.FramingLaws.{whole, body-size, body-octet, front-size, front-body, front-rest}
 use Rattle.octets.proofs.RefusingLaws.{refuse-if-ok}
 use Rattle.octets.proofs.TextLaws.{same-true}
-use Rattle.domain.specs.Domain.{is-domain}
+use Rattle.domain.specs.Domain.{without-dot, is-domain}
 use Rattle.txt.specs.declared.Status.{Status}
 use Rattle.txt.specs.Answers.{answer-of}
 use Rattle.book.specs.Start.{item-domain, item, unpacked}
@@ -49,12 +49,12 @@ status-read : (a : ℕ) (rest : Octets) (s : Status) → status-of a ≡ just s 
 unfolding status-in status-or-error
 status-read a rest s e = rw e
 
-answer-read : (o : Option Status) (n : ℕ) (rest : Octets) (r : Entry) → answer-in o n rest ≡ just r → (s : Status) × ((o ≡ just s) × (answer-entry (take n rest) s (drop n rest) ≡ r))
+answer-read : (o : Option Status) (n : ℕ) (rest : Octets) (r : Entry) → answer-in o n rest ≡ just r → (s : Status) × ((o ≡ just s) × (answer-entry (without-dot (take n rest)) s (drop n rest) ≡ r))
 unfolding answer-in
 answer-read nothing n rest r e = absurd (let z : _≡_ {A = ℕ} 0 1 = cc in omega arith)
-answer-read (just s) n rest r e = go (leb n (length rest) && is-domain (take n rest) && bytes-allowed s (drop n rest)) e
+answer-read (just s) n rest r e = go (leb n (length rest) && is-domain (without-dot (take n rest)) && bytes-allowed s (drop n rest)) e
   where
-    go : (b : Bool) → (if b then just (answer-entry (take n rest) s (drop n rest)) else nothing) ≡ just r → (s' : Status) × ((just s ≡ just s') × (answer-entry (take n rest) s' (drop n rest) ≡ r))
+    go : (b : Bool) → (if b then just (answer-entry (without-dot (take n rest)) s (drop n rest)) else nothing) ≡ just r → (s' : Status) × ((just s ≡ just s') × (answer-entry (without-dot (take n rest)) s' (drop n rest) ≡ r))
     go true f = (s, (refl, cc))
     go false f = absurd (let z : _≡_ {A = ℕ} 0 1 = cc in omega arith)
 

@@ -6,15 +6,15 @@ use mathlib.Core.Option.{Option, none as nothing, some as just}
 use Prim.Native.Nat.{ℕ, zero, suc, _+_, _≤_, _<_}
 use native.Mathlib.Omega.{arith}
 use lib.Dec.{eqb, leb}
-use lib.ListN.{length, take, drop, getD, length-drop}
+use lib.ListN.{length, take, drop, getD}
 use lib.Seq.{drop-cons, drop-length}
 use borrow.Author.Tests.{le-leb, lt-leb, eq-eqb, ne-eqb, eqb-true, eqb-false}
 use Rattle.octets.specs.Octets.{Octets, octets, same, is-empty, is-nothing, part-of, if_then_else_}
 use Rattle.octets.specs.Framing.{mark-of, body-of}
 use Rattle.octets.proofs.TextLaws.{same-true}
-use Rattle.domain.specs.Domain.{is-domain}
+use Rattle.domain.specs.Domain.{without-dot, is-domain}
 use Rattle.txt.specs.declared.Status.{Status}
-use Rattle.records.specs.Sheet.{Entry, answer-entry, status-of, bytes-allowed, answer-in, entry-in, entry-of}
+use Rattle.records.specs.Sheet.{answer-entry, status-of, bytes-allowed, answer-in, entry-in, entry-of}
 use Rattle.records_fields.specs.code.Layout.{name-in}
 use Rattle.records_read.specs.declared.RecordKind.{RecordKind}
 use Rattle.records_read.specs.code.Kinds.{record-kind}
@@ -42,16 +42,16 @@ module _ (n : ℕ) (rest : Octets) where
   no-name nothing e = refl
   no-name (just s) e = rw e
 
-  no-rule : (o : Option Status) → is-domain (take n rest) ≡ false → answer-in o n rest ≡ nothing
+  no-rule : (o : Option Status) → is-domain (without-dot (take n rest)) ≡ false → answer-in o n rest ≡ nothing
   unfolding answer-in
   no-rule nothing e = refl
   no-rule (just s) e = rw (e, and-false)
 
-  module _ (fits : leb n (length rest) ≡ true) (rule : is-domain (take n rest) ≡ true) where
+  module _ (fits : leb n (length rest) ≡ true) (rule : is-domain (without-dot (take n rest)) ≡ true) where
     by-status : (s : Status) → not (is-nothing (answer-in (just s) n rest)) ≡ bytes-allowed s (drop n rest)
     unfolding answer-in is-nothing
     by-status s =
-        let answer = answer-entry (take n rest) s (drop n rest) in
+        let answer = answer-entry (without-dot (take n rest)) s (drop n rest) in
         rw (fits, rule) (elim (bytes-allowed s (drop n rest)) as (λ b. not (is-nothing (if b then just answer else nothing)) ≡ b) [ true ↦ refl | false ↦ refl ])
 
     with-records : not (is-nothing (answer-in (status-of 0) n rest)) ≡ true
@@ -122,8 +122,8 @@ answer-kind : (o : Option Status) (n : ℕ) (rest : Octets) → by-answer (not (
 unfolding answer-in record-kind is-nothing by-answer
 answer-kind nothing n rest = refl
 answer-kind (just s) n rest =
-    let answer = answer-entry (take n rest) s (drop n rest) in
-    elim (leb n (length rest) && is-domain (take n rest) && bytes-allowed s (drop n rest))
+    let answer = answer-entry (without-dot (take n rest)) s (drop n rest) in
+    elim (leb n (length rest) && is-domain (without-dot (take n rest)) && bytes-allowed s (drop n rest))
     as (λ b. by-answer (not (is-nothing (if b then just answer else nothing))) ≡ record-kind (if b then just answer else nothing)) [ true ↦ refl | false ↦ refl ]
 
 kind-by-body : (body : Octets) → by-answer (not (is-nothing (entry-in (octets "AN") body))) ≡ record-kind (entry-in (octets "AN") body)

@@ -23,9 +23,9 @@ use Rattle.octets.proofs.TextLaws.{lower-length}
 use Rattle.octets.proofs.PartLaws.{made-of-long}
 use Rattle.octets_pieces.specs.code.Putting.{Puts}
 use Rattle.octets_pieces.proofs.PuttingLaws.{puts-both}
-use Rattle.domain.specs.Domain.{Domain, is-domain}
+use Rattle.domain.specs.Domain.{Domain, without-dot, is-domain}
 use Rattle.domain.proofs.RuleLaws.{domain-short}
-use Rattle.reporting.specs.FileName.{alphanumeric, good-id, given-id, good-id-if-any, good-report, domains-part, times-part, end-part, file-name-text, file-name}
+use Rattle.reporting.specs.FileName.{alphanumeric, good-id, given-id, good-id-if-any, good-report, domains-part, times-part, end-part, file-name-text, report-name, file-name}
 
 -- ------------------------------------------------------------------ how long it is
 
@@ -71,10 +71,12 @@ name-short r p begin end id good h k =
 
 -- ------------------------------------------------------------------ the promise, by the test that the code makes
 
-module _ (r p : Domain) (begin end : ℕ) (id : Option Octets) (before : Octets) {good : Bool} (e : good ≡ good-report r p begin end id) where
-  pub name-refused : not good ≡ true → WritesIf (file-name r p begin end id) before (Refused (refusal 11 0)) before
-  unfolding file-name written-if left-if
-  name-refused h = let bad = sym e ∙ not-true good h in record { answers = rw bad; leaves = rw bad }
+-- of the domains without their dots
+module _ (receiver policy-domain : Octets) {r p : Domain} (f : r ≡ without-dot receiver) (g : p ≡ without-dot policy-domain) (begin end : ℕ) (id : Option Octets) (before : Octets)
+    {good : Bool} (e : good ≡ good-report r p begin end id) where
+  pub name-refused : not good ≡ true → WritesIf (file-name receiver policy-domain begin end id) before (Refused (refusal 11 0)) before
+  unfolding file-name report-name written-if left-if
+  name-refused h = let bad = sym e ∙ not-true good h in record { answers = rw (← f, ← g, bad); leaves = rw (← f, ← g, bad) }
 
   -- of what can be written the length is counted first
   module _ (h : not good ≡ false) (b : begin < 2 ^ 64) (k : end < 2 ^ 64) {none left : Octets} {n : ℕ} (q : Puts (file-name-text r p begin end id) 0 none n left) where
@@ -88,15 +90,15 @@ module _ (r p : Domain) (begin end : ℕ) (id : Option Octets) (before : Octets)
     unfolding text
     counted = q .counts (omega (arith, name-short r p begin end id is-good b k)) ∙ zero-add (length text)
 
-    by : {answer : Written} {after : Octets} → Writes text before answer after → WritesIf (file-name r p begin end id) before answer after
-    unfolding file-name written-if left-if text
-    by w = record { answers = rw is-good (w .answers); leaves = rw is-good (w .leaves) }
+    by : {answer : Written} {after : Octets} → Writes text before answer after → WritesIf (file-name receiver policy-domain begin end id) before answer after
+    unfolding file-name report-name written-if left-if text
+    by w = record { answers = rw (← f, ← g, is-good) (w .answers); leaves = rw (← f, ← g, is-good) (w .leaves) }
 
-    pub name-too-long : length before < n → WritesIf (file-name r p begin end id) before (Refused (refusal 10 n)) before
+    pub name-too-long : length before < n → WritesIf (file-name receiver policy-domain begin end id) before (Refused (refusal 10 n)) before
     name-too-long l = by (refuses text before (omega (arith, counted)) n counted (Refused (refusal 10 n)) refl)
 
     pub name-written : n ≤ length before → {next : ℕ} {after : Octets} → Puts (file-name-text r p begin end id) 0 before next after
-        → WritesIf (file-name r p begin end id) before (Wrote next) after
+        → WritesIf (file-name receiver policy-domain begin end id) before (Wrote next) after
     unfolding text
     name-written l s = let room : length text ≤ length before = omega (arith, counted) in by (appends-whole text before room (s .appends (omega (arith, room))))
 

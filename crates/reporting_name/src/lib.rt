@@ -83,19 +83,21 @@ pub fn write_file_name<'a>(
 ) -> Written
     ensures { λ r. ⌜ WritesIf (file-name (now (receiver .entry)) (now («policy_domain» .entry)) begin end (given-id named (now (id .entry)))) (now (out .entry)) r (now (out .exit)) ⌝ }
 {
-    if !is_report(receiver, policy_domain, begin, end, named, id) {
+    let reporter = domain_taken::without_dot(receiver);
+    let reported = domain_taken::without_dot(policy_domain);
+    if !is_report(reporter, reported, begin, end, named, id) {
         return Written::Refused(Refusal {
             number: 11,
             place: 0,
         });
     }
     let mut none = [0u8; 1];
-    let n = put_name(receiver, policy_domain, begin, end, named, id, &mut none);
+    let n = put_name(reporter, reported, begin, end, named, id, &mut none);
     if out.len() < n {
         return Written::Refused(Refusal {
             number: 10,
             place: n,
         });
     }
-    Written::Wrote(put_name(receiver, policy_domain, begin, end, named, id, out))
+    Written::Wrote(put_name(reporter, reported, begin, end, named, id, out))
 }

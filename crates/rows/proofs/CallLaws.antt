@@ -12,7 +12,7 @@ use Rattle.octets.specs.Refusing.{_>>=_, OrRefused, ok, not-ok, refusal, refuse
 use Rattle.octets.specs.declared.Refusal.{Refusal}
 use Rattle.octets.proofs.TextLaws.{true→T}
 use Rattle.octets.proofs.RefusingLaws.{bind-ok, refuse-if-ok}
-use Rattle.domain.specs.Domain.{Domain, is-domain}
+use Rattle.domain.specs.Domain.{Domain, without-dot, is-domain}
 use Rattle.rows.specs.declared.Seen.{Seen}
 use Rattle.rows.specs.declared.Row.{Row}
 use Rattle.rows.specs.declared.Entry.{Entry}
@@ -79,12 +79,12 @@ entered-ok e d l l′ h =
     record { rows = rows; one-more = counted-one (seen-in e) (on-list (l .rows)) rows one; is-after = cc h₄ }
 
 -- a list that was cleared
-unfoldable emptied : Domain → Listing → Listing
-emptied d l = record { domain = just (lower d); rows = map (with-count 0) (on-list (l .rows)) ++ past-list (l .rows) }
+unfoldable pub emptied : Domain → Listing → Listing
+emptied d l = record { domain = just (lower (without-dot d)); rows = map (with-count 0) (on-list (l .rows)) ++ past-list (l .rows) }
 
-cleared-ok : (d : Domain) (l l′ : Listing) → cleared d l ≡ ok l′ → emptied d l ≡ l′
+pub cleared-ok : (d : Domain) (l l′ : Listing) → cleared d l ≡ ok l′ → emptied d l ≡ l′
 unfolding cleared emptied
-cleared-ok d l l′ h = let good = refuse-if-ok (not (is-domain d)) (refusal 11 0) _ l′ h in cc (good .1)
+cleared-ok d l l′ h = let good = refuse-if-ok (not (is-domain (without-dot d))) (refusal 11 0) _ l′ h in cc (good .1)
 
 -- ------------------------------------------------------------------ no refusal has number 0
 
@@ -121,7 +121,7 @@ refused-then (not-ok r) g f e k = k (cc e)
 
 pub refused-number : (c : Call) (l : Listing) (f : Refusal) → gives c l ≡ not-ok f → is-accepted f ≡ false
 unfolding gives cleared entered
-refused-number (clear d) l f h = refused-first (not (is-domain d)) 11 _ f refl h (accepted-as _ f)
+refused-number (clear d) l f h = refused-first (not (is-domain (without-dot d))) 11 _ f refl h (accepted-as _ f)
 refused-number (enter e d) l f h =
     refused-first (not (is-judged (e .finding))) 14 _ f refl h (λ g.
     refused-first (not (serves (l .domain) d)) 27 _ f refl g (λ k.

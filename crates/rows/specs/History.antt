@@ -5,10 +5,9 @@ use mathlib.Core.Bool.{Bool, true, false}
 use Prim.Native.Nat.{ℕ, _+_}
 use lib.Dec.{eqb}
 use lib.ListN.{length}
-use Rattle.octets.specs.Octets.{if_then_else_}
+use Rattle.octets.specs.Octets.{Octets, if_then_else_}
 use Rattle.octets.specs.Refusing.{OrRefused, ok, not-ok, refusal}
 use Rattle.octets.specs.declared.Refusal.{Refusal}
-use Rattle.domain.specs.Domain.{Domain}
 use Rattle.rows.specs.declared.Seen.{Seen}
 use Rattle.rows.specs.declared.Row.{Row}
 use Rattle.rows.specs.declared.Entry.{Entry}
@@ -18,8 +17,8 @@ use Rattle.rows.specs.Rows.{Listing, on-list, past-list, seen-in, cleare
 
 -- an entry comes with the domain of its applied record
 pub data Call : Type 0 where
-  clear : Domain → Call
-  enter : Entry → Domain → Call
+  clear : Octets → Call
+  enter : Entry → Octets → Call
 
 unfoldable pub gives : Call → Listing → OrRefused Listing
 gives (clear d) l = cleared d l

@@ -1,13 +1,13 @@
--- Daily rows of one policy domain (document 02, Ask 1): what clearing a list and entering a verdict give.
+-- Daily rows of one policy domain (document 02, Ask 1 and, for a final dot, Ask 5): what clearing a list and entering a verdict give.
 use mathlib.Core.List.{List, [], _∷_, _++_, map}
 use mathlib.Core.Bool.{Bool, false, _&&_, not, Bool·beq}
 use mathlib.Core.Option.{Option, none as nothing, some as just}
 use Prim.Native.Nat.{ℕ, _+_}
 use lib.Dec.{eqb, leb}
 use lib.ListN.{take, drop}
-use Rattle.octets.specs.Octets.{if_then_else_, any, same, same-text, lower}
+use Rattle.octets.specs.Octets.{Octets, if_then_else_, any, same, same-text, lower}
 use Rattle.octets.specs.Refusing.{_>>=_, OrRefused, ok, not-ok, refusal, refuse-if}
-use Rattle.domain.specs.Domain.{Domain, is-domain}
+use Rattle.domain.specs.Domain.{Domain, without-dot, is-domain}
 use Rattle.policy.specs.declared.Policy.{Policy}
 use Rattle.alignment.specs.declared.Kind.{Kind}
 use Rattle.verdict.specs.declared.Result.{Result}
@@ -120,19 +120,19 @@ pub record Listing : Type 0 where
   pub domain : Option Domain
   pub rows : List Row
 
--- 27 "another policy domain, or a list never cleared"
-unfoldable pub serves : Option Domain → Domain → Bool
+-- 27 "another policy domain, or a list never cleared"; "every domain we take" may "end in one dot, which is dropped"
+unfoldable pub serves : Option Domain → Octets → Bool
 serves nothing d = false
-serves (just named) d = same-text d named
+serves (just named) d = same-text (without-dot d) named
 
--- "A day's end clears the list, its counts to 0 and no more; a bad policy domain there is refused 11"
-unfoldable pub cleared : Domain → Listing → OrRefused Listing
+-- "A day's end clears the list, its counts to 0 and no more; a bad policy domain there is refused 11"; its final dot is dropped
+unfoldable pub cleared : Octets → Listing → OrRefused Listing
 cleared d l = do
-  _ ← refuse-if (not (is-domain d)) (refusal 11 0)
-  ok (record { domain = just (lower d); rows = map (with-count 0) (on-list (l .rows)) ++ past-list (l .rows) })
+  _ ← refuse-if (not (is-domain (without-dot d))) (refusal 11 0)
+  ok (record { domain = just (lower (without-dot d)); rows = map (with-count 0) (on-list (l .rows)) ++ past-list (l .rows) })
 
 -- of the verdict and the domain of its applied record: "order 14, 27, 12, 13"
-unfoldable pub entered : Entry → Domain → Listing → OrRefused Listing
+unfoldable pub entered : Entry → Octets → Listing → OrRefused Listing
 entered e d l = do
   _ ← refuse-if (not (is-judged (e .finding))) (refusal 14 0)
   _ ← refuse-if (not (serves (l .domain) d)) (refusal 27 0)

@@ -11,7 +11,7 @@ use borrow.Author.Tests.{ne-eqb}
 use Rattle.octets.specs.Octets.{Octets, any, same-text, lower, part-of}
 use Rattle.octets.specs.Refusing.{refusal}
 use Rattle.octets.specs.Lent.{left}
-use Rattle.domain.specs.Domain.{Domain, is-domain}
+use Rattle.domain.specs.Domain.{Domain, without-dot, is-domain}
 use Rattle.policy.specs.declared.Policy.{Policy}
 use Rattle.verdict.specs.declared.Disposition.{Disposition}
 use Rattle.rows.specs.declared.Entry.{Entry}
@@ -23,26 +23,28 @@ use Rattle.rows_check.specs.code.Check.{renamed, check-number}
 
 -- ------------------------------------------------------------------ a list's name
 
-module _ (l : DayList) (d : Domain) where
-  pub renamed-bad : is-domain d ≡ false → record { list = l; refusal = refusal 11 0 } ≡ renamed l d
-  unfolding renamed
-  renamed-bad e = rw e
-
-  pub renamed-good : is-domain d ≡ true → (name : Octets) → name ≡ left (lower d) (replicate 253 0)
-      → record { list = record { cleared = true; domain = name; length = length d }; refusal = refusal 0 0 } ≡ renamed l d
-  unfolding renamed named-for
-  renamed-good e name h = rw (e, h)
-
+module _ (l : DayList) (d : Octets) where
   pub serves-never : l .cleared ≡ false → false ≡ serves (domain-in l) d
   unfolding serves domain-in
   serves-never e = rw e
 
-  pub serves-named : l .cleared ≡ true → same-text d (part-of (l .domain) 0 (l .length)) ≡ serves (domain-in l) d
-  unfolding serves domain-in part-of
-  serves-named e = rw (e, at-front (l .length)) refl
-    where
-      at-front : (n : ℕ) → n - 0 ≡ n
-      at-front n = omega arith
+  -- of the domain without its dot
+  module _ {x : Domain} (q : x ≡ without-dot d) where
+    pub renamed-bad : is-domain x ≡ false → record { list = l; refusal = refusal 11 0 } ≡ renamed l d
+    unfolding renamed
+    renamed-bad e = rw (← q, e)
+
+    pub renamed-good : is-domain x ≡ true → (name : Octets) → name ≡ left (lower x) (replicate 253 0)
+        → record { list = record { cleared = true; domain = name; length = length x }; refusal = refusal 0 0 } ≡ renamed l d
+    unfolding renamed named-for
+    renamed-good e name h = rw (← q, e, h)
+
+    pub serves-named : l .cleared ≡ true → same-text x (part-of (l .domain) 0 (l .length)) ≡ serves (domain-in l) d
+    unfolding serves domain-in part-of
+    serves-named e = rw (q, e, at-front (l .length)) refl
+      where
+        at-front : (n : ℕ) → n - 0 ≡ n
+        at-front n = omega arith
 
 -- ------------------------------------------------------------------ a verdict
 
@@ -72,7 +74,7 @@ module _ (f : Finding) where
     unfolding is-judged result-number any
     by-fail e = rw (applied, ne-eqb (f .result) 1 e, or-false, and-true)
 
-module _ (named : Option Domain) (e : Entry) (d : Domain) where
+module _ (named : Option Domain) (e : Entry) (d : Octets) where
   pub not-judged : is-judged (e .finding) ≡ false → 14 ≡ check-number named e d
   unfolding check-number
   not-judged h = rw h

@@ -42,15 +42,16 @@ pub fn is_refused(c: Changed) -> bool
 pub fn rename(list: DayList, domain: &[u8]) -> Changed
     ensures { λ r. ⌜ r ≡ renamed list (now (domain .entry)) ⌝ }
 {
-    if !domain_rule::is_domain(domain) {
+    let d = domain_taken::without_dot(domain);
+    if !domain_rule::is_domain(d) {
         return answered(list, 11);
     }
     let mut name = [0u8; 253];
-    octets_write::write_lower(domain, &mut name);
+    octets_write::write_lower(d, &mut name);
     let named = DayList {
         cleared: true,
         domain: name,
-        length: domain.len(),
+        length: d.len(),
     };
     answered(named, 0)
 }
@@ -69,7 +70,8 @@ fn serves(list: DayList, domain: &[u8]) -> bool
     if !list.cleared {
         return false;
     }
-    same_domain(domain, text_parts::part(&list.domain, 0, list.length))
+    let d = domain_taken::without_dot(domain);
+    same_domain(d, text_parts::part(&list.domain, 0, list.length))
 }
 
 // Whether a finding is a pass or fail.

@@ -4,10 +4,10 @@ use mathlib.Core.List.{List, [], _∷_}
 use mathlib.Core.Bool.{true, false}
 use mathlib.Core.Option.{Option, none as nothing, some as just}
 use lib.ListN.{length, take, replicate}
-use Rattle.octets.specs.Octets.{if_then_else_, is-nothing, lower}
+use Rattle.octets.specs.Octets.{Octets, if_then_else_, is-nothing, lower}
 use Rattle.octets.specs.Lent.{left}
 use Rattle.octets.specs.declared.Refusal.{Refusal}
-use Rattle.domain.specs.Domain.{Domain}
+use Rattle.domain.specs.Domain.{Domain, without-dot}
 use Rattle.rows.specs.declared.Row.{Row}
 use Rattle.rows.specs.Rows.{Listing}
 use Rattle.rows.specs.History.{Call, clear, enter, gives, refusal-of, is-accepted, left-by, History, Tallies, Untouched, DayEnd}
@@ -23,12 +23,12 @@ domain-in l = if l .cleared then just (take (l .length) (l .domain)) else nothin
 unfoldable pub listing : DayList → List Row → Listing
 listing l rows = record { domain = domain-in l; rows = rows }
 
--- the list that no call was made on, and the one that is named for a domain: in lower case, what lies past it 0
+-- the list that no call was made on, and the one that is named for a domain: in lower case, without a final dot, what lies past it 0
 unfoldable pub never-cleared : DayList
 never-cleared = record { cleared = false; domain = replicate 253 0; length = 0 }
 
-unfoldable pub named-for : Domain → DayList
-named-for d = record { cleared = true; domain = left (lower d) (replicate 253 0); length = length d }
+unfoldable pub named-for : Octets → DayList
+named-for d = record { cleared = true; domain = left (lower (without-dot d)) (replicate 253 0); length = length (without-dot d) }
 
 -- ------------------------------------------------------------------ the promise of both calls
 

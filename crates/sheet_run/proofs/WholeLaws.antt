@@ -1,21 +1,20 @@
 -- Laws of a whole sheet: from its records to its start, and what is printed.
 use mathlib.Core.Path.{_≡_, refl, ap, sym, _∙_}
 use mathlib.Core.Bool.{false}
-use Prim.Native.Nat.{ℕ, _≤_}
-use lib.ListN.{length, drop, getD}
+use Prim.Native.Nat.{ℕ}
+use lib.ListN.{drop, getD}
 use Rattle.octets.specs.Octets.{Octets}
 use Rattle.octets.specs.Framing.{body-of}
-use Rattle.octets.specs.Refusing.{OrRefused, ok, not-ok, _>>=_, refusal}
+use Rattle.octets.specs.Refusing.{OrRefused, ok, not-ok, _>>=_}
 use Rattle.octets.specs.declared.Refusal.{Refusal}
 use Rattle.octets.proofs.TextLaws.{true→T}
 use Rattle.verdict.specs.Message.{Message}
-use Rattle.book.specs.Start.{GivenMessage, started, unpacked}
+use Rattle.book.specs.Start.{started}
 use Rattle.evaluation.specs.declared.Evaluation.{Evaluation}
 use Rattle.evaluation.specs.declared.Acceptance.{Acceptance}
 use Rattle.evaluation.specs.declared.Changed.{Changed}
-use Rattle.evaluation.specs.code.View.{view, opened-view, Changes, started-view, given-message}
-use Rattle.evaluation.proofs.ViewLaws.{accepted-few}
-use Rattle.records.specs.Sheet.{entries, message-in, answer-at}
+use Rattle.evaluation.specs.code.View.{Changes, started-view, given-message}
+use Rattle.records.specs.Sheet.{entries, message-in}
 use Rattle.records_fields.specs.code.Layout.{listed, identifiers-part, Whole}
 use Rattle.records_find.proofs.SheetLaws.{message-law}
 use Rattle.sheet.specs.Printed.{evaluated-over, evaluated, text-of, printed}
@@ -57,7 +56,7 @@ module _ (k : ℕ) (sheet : Octets) (ω : Whole k sheet) where
           accepted = λ q. record {
             message = m;
             all-listed = ω .all-listed;
-            conversing = λ lines size. begins m (answers-on k sheet) (r .evaluation) lines (accepted-few (message-in (listed k sheet)) m s) v size;
+            conversing = λ lines size. begins (message-in (listed k sheet)) m s (answers-on k sheet) (r .evaluation) lines v size;
             prints = printed-whole ∙ rw s;
           };
         }

@@ -1,28 +1,31 @@
 -- Laws of the conversation: what a turn of next step and answer does, by the book and the claims on it.
-use mathlib.Core.Path.{_≡_, refl, ap, ap₂, sym, _∙_}
-use mathlib.Core.List.{List, [], _∷_, _++_, map, flatten, append-nil, append-assoc}
-use mathlib.Core.Bool.{Bool, true, false, _||_, or-true}
+use mathlib.Core.Path.{_≡_, refl, ap, sym, _∙_}
+use mathlib.Core.List.{List, [], _∷_, _++_, flatten, append-nil}
+use mathlib.Core.Bool.{Bool, true, false, or-true}
 use mathlib.Core.Option.{Option, none as nothing, some as just}
-use Prim.Native.Nat.{ℕ, suc, _+_, _*_, _≤_}
+use Prim.Native.Nat.{ℕ, _+_, _≤_}
 use native.Mathlib.Omega.{arith}
-use native.Mathlib.Numerals.{add-one}
-use lib.Dec.{leb}
 use lib.ListN.{length, take, length-append}
 use Rattle.octets.specs.Octets.{Octets, octets, any, same, same-text, if_then_else_, is-nothing}
-use Rattle.octets.specs.Refusing.{OrRefused, ok, not-ok, _>>=_, refuse-if, refusal}
+use Rattle.octets.specs.Refusing.{ok, not-ok, _>>=_, refuse-if, refusal}
 use Rattle.octets.specs.declared.Refusal.{Refusal}
 use Rattle.octets.proofs.TextLaws.{same-self, same-true, true→T}
 use Rattle.octets.proofs.ListLaws.{any-append}
 use Rattle.octets_append.proofs.AppendLaws.{moved-on}
-use Rattle.lookup.specs.Lookup.{Name, Answers, names, find, value, list, Standing, needs, has, Completes}
+use Rattle.lookup.specs.Lookup.{Name, Answers, names, find, list, Standing, needs, has, Completes}
+use Rattle.lookup.proofs.NameLaws.{member-last}
 use Rattle.lookup.proofs.RunLaws.{names-append, find-append}
+use Rattle.domain.specs.Domain.{without-dot}
 use Rattle.txt.specs.declared.Status.{Status}
-use Rattle.txt.specs.Answers.{Answer, answer-of, texts, scratch-after}
+use Rattle.txt.specs.Answers.{Answer, answer-of, texts}
 use Rattle.verdict.specs.Message.{Message}
 use Rattle.verdict.specs.Verdict.{Verdict, separate-walks}
-use Rattle.book.specs.Book.{Call, next, answer, Back, ask-name, verdict, accepted, refused, Given, given, Book, opened, with-asked, kept, standing, count, next-by, book-next, answer-kept, answer-asked, book-answer, book-call, leaves}
+use Rattle.book.specs.Start.{GivenMessage, started}
+use Rattle.book.specs.Book.{Call, next, answer, ask-name, verdict, accepted, refused, Given, given, Book, opened, with-asked, kept, standing, count, next-by, book-next, answer-kept, answer-asked, book-answer, book-call, leaves}
 use Rattle.book.specs.BookClaims.{book-after, asked-names, now-asked}
 use Rattle.book.proofs.BookLaws.{after-snoc, book-claims}
+use Rattle.book.proofs.DotLaws.{one-name}
+use Rattle.book.proofs.StartLaws.{accepted-few}
 use Rattle.evaluation.specs.declared.Evaluation.{Evaluation}
 use Rattle.evaluation.specs.code.View.{view, opened-view, Does, replies, shown}
 use Rattle.evaluation.proofs.ViewLaws.{does-shown, few-asked}
@@ -50,11 +53,11 @@ module _ (b : Book) where
   never-refused f (needs m) e = let g : refused f ≡ ask-name m = ap (λ g. g .back) e in true→T {b = false} (cc g)
   never-refused f (has v) e = let g : refused f ≡ verdict v (count b) = ap (λ g. g .back) e in true→T {b = false} (cc g)
 
-  -- an answer for the very name asked, with scratch enough
-  answered : (n : Name) (s : Status) (bytes scratch : Octets) → length scratch ≡ 4096
+  -- an answer for the very name asked, which has no final dot, with scratch enough
+  answered : (n : Name) → without-dot n ≡ n → (s : Status) (bytes scratch : Octets) → length scratch ≡ 4096
       → book-answer (with-asked b n) n s bytes scratch ≡ answer-kept (with-asked b n) n (answer-of s bytes) scratch (texts (answer-of s bytes))
   unfolding book-answer answer-asked with-asked same-text
-  answered n s bytes scratch e = rw (same-self _)
+  answered n u s bytes scratch e = rw (u, same-self _)
 
 -- ------------------------------------------------------------------ a turn
 
@@ -93,15 +96,19 @@ module _ (m : Message) (α : Name → Answer) (turns : ℕ) (e : Evaluation) (at
   unfolding asked-names now-asked answered-names b
   asked-is = rw (χ .none-asked) (append-nil _)
 
+  -- at most 16 identifiers
+  few : length (m .identifiers) ≤ 16
+  few = accepted-few (χ .handed) m (χ .starts)
+
   -- at most 136 names were answered
   pub turns-most : turns ≤ 136
   unfolding answered-names b
-  turns-most = omega (arith, χ .turned, ap length asked-is, few-asked m (χ .few) (χ .calls))
+  turns-most = omega (arith, χ .turned, ap length asked-is, few-asked m few (χ .calls))
 
   -- the next step
   pub next-gives : {now : Evaluation} {g : Given} → Does e next now g → (view now ≡ shown (book-after m (χ .calls ++ (next ∷ [])))) × (g ≡ next-by (book-after m (χ .calls)) (standing (book-after m (χ .calls))) .1)
   unfolding book-call book-next
-  next-gives d = does-shown m (χ .few) (χ .calls) (χ .holds) d
+  next-gives d = does-shown m few (χ .calls) (χ .holds) d
 
   -- at the verdict
   pub ended : (w : Verdict) (c : ℕ) → standing (book-after m (χ .calls)) ≡ has w → c ≡ count (book-after m (χ .calls))
@@ -122,10 +129,14 @@ module _ (m : Message) (α : Name → Answer) (turns : ℕ) (e : Evaluation) (at
     unfolding asked-names now-asked with-asked answered-names b
     asked-then = rw after-next
 
+    -- no final dot is asked
+    undotted : without-dot n ≡ n
+    undotted = one-name (χ .handed) m (χ .calls ++ (next ∷ [])) .no-dot (χ .starts) n (rw asked-then (member-last n answered-names))
+
     -- at most 136 names
     pub turns-few : turns + 1 ≤ 136
     unfolding answered-names b
-    turns-few = omega (arith, χ .turned, ap length asked-then ∙ length-append answered-names (n ∷ []), few-asked m (χ .few) (χ .calls ++ (next ∷ [])))
+    turns-few = omega (arith, χ .turned, ap length asked-then ∙ length-append answered-names (n ∷ []), few-asked m few (χ .calls ++ (next ∷ [])))
 
     -- an answer that cannot be read
     pub not-read : texts (α n) ≡ nothing → text-of (evaluated-over m α) ≡ text-of (not-ok (refusal 6 0))
@@ -141,11 +152,11 @@ module _ (m : Message) (α : Name → Answer) (turns : ℕ) (e : Evaluation) (at
 
       book-is : book-call (book-after m (χ .calls ++ (next ∷ []))) (answer n status bytes scratch) ≡ answer-kept (with-asked (book-after m (χ .calls)) n) n (α n) scratch (texts (α n))
       unfolding book-call
-      book-is = rw after-next (answered (book-after m (χ .calls)) n status bytes scratch k ∙ rw a)
+      book-is = rw after-next (answered (book-after m (χ .calls)) n undotted status bytes scratch k ∙ rw a)
 
       shows-then : (view after-it ≡ shown (book-after m more-calls)) × (g ≡ answer-kept (with-asked (book-after m (χ .calls)) n) n (α n) scratch (texts (α n)) .1)
       unfolding more-calls
-      shows-then = let (h, f) = does-shown m (χ .few) (χ .calls ++ (next ∷ [])) v d in (h, f ∙ ap (λ x. x .1) book-is)
+      shows-then = let (h, f) = does-shown m few (χ .calls ++ (next ∷ [])) v d in (h, f ∙ ap (λ x. x .1) book-is)
 
       -- refused: 6, and so is the sheet
       pub answer-refused : (f : Refusal) → g .back ≡ refused f → text-of (evaluated-over m α) ≡ text-of (not-ok f)
@@ -176,14 +187,15 @@ module _ (m : Message) (α : Name → Answer) (turns : ℕ) (e : Evaluation) (at
                 prints = p ∙ rw (χ .prints, ns, ask-lines-snoc);
                 short = omega (arith, χ .short);
                 turned = rw (ns, length-append, χ .turned);
-                few = χ .few;
+                handed = χ .handed;
+                starts = χ .starts;
                 room = size;
               }
 
 -- the conversation begins
-pub begins : (m : Message) (α : Name → Answer) (e : Evaluation) (lines : Octets) → length (m .identifiers) ≤ 16 → view e ≡ opened-view m → length lines ≡ 36864 → Conversing m α 0 e 0 lines
+pub begins : (g : GivenMessage) (m : Message) → started g ≡ ok m → (α : Name → Answer) (e : Evaluation) (lines : Octets) → view e ≡ opened-view m → length lines ≡ 36864 → Conversing m α 0 e 0 lines
 unfolding book-after leaves opened opened-view shown replies names find any ask-lines flatten
-begins m α e lines few v size =
+begins g m s α e lines v size =
     record {
       calls = [];
       holds = v;
@@ -193,7 +205,8 @@ begins m α e lines few v size =
       prints = refl;
       short = omega arith;
       turned = refl;
-      few = few;
+      handed = g;
+      starts = s;
       room = size;
     }
 

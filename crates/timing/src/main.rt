@@ -21,7 +21,7 @@ fn make_start(s: State, body: &[u8]) -> State {
     if body.len() < 3 {
         return s;
     }
-    let author = records_fields::name_in(text_parts::skip(body, 1));
+    let author = text_parts::part(body, 3, 3 + bodies::octet_at(body, 2));
     let packed = records_fields::bytes(text_parts::skip(body, 1));
     let changed = evaluation_start::start(s.evaluation, author, body[0], body[1], packed);
     let after = changed.evaluation;
@@ -35,7 +35,7 @@ fn make_start(s: State, body: &[u8]) -> State {
 fn make_answer(s: State, body: &[u8], scratch: &mut [u8]) -> State {
     let changed = evaluation_answer::answer(
         s.evaluation,
-        records_fields::name_in(text_parts::skip(body, 2)),
+        text_parts::part(body, 4, 4 + bodies::octet_at(body, 3)),
         records_fields::status(body),
         records_fields::bytes(text_parts::skip(body, 2)),
         scratch,

@@ -12,7 +12,7 @@ use Rattle.octets.specs.Octets.{Octets, if_then_else_, any, lower}
 use Rattle.octets.specs.Refusing.{_>>=_, OrRefused, ok, not-ok, refusal, refuse-if}
 use Rattle.octets.specs.Lent.{left, over, fits}
 use Rattle.octets.proofs.TextLaws.{true→T, lower-length}
-use Rattle.domain.specs.Domain.{Domain, is-domain}
+use Rattle.domain.specs.Domain.{without-dot, is-domain}
 use Rattle.domain.proofs.RuleLaws.{domain-short}
 use Rattle.rows.specs.declared.Seen.{Seen}
 use Rattle.rows.specs.declared.Row.{Row}
@@ -32,39 +32,40 @@ front-of [] b = refl
 front-of (x ∷ a) b = ap (λ (r : Octets). x ∷ r) (front-of a b)
 
 -- a list that is named for a domain has its name
-has-name : (d : Domain) → is-domain d ≡ true → domain-in (named-for d) ≡ just (lower d)
+has-name : (d : Octets) → is-domain (without-dot d) ≡ true → domain-in (named-for d) ≡ just (lower (without-dot d))
 unfolding domain-in named-for left fits over
 has-name d e =
-    rw (le-leb (length (lower d)) 253 (omega (arith, lower-length d, domain-short d e))) (ap just (rw (← lower-length d) (front-of (lower d) (drop (length (lower d)) (replicate 253 0)))))
+    let x = without-dot d in
+    rw (le-leb (length (lower x)) 253 (omega (arith, lower-length x, domain-short x e))) (ap just (rw (← lower-length x) (front-of (lower x) (drop (length (lower x)) (replicate 253 0)))))
 
-module _ (l : DayList) (d : Domain) (ys : List Row) where
-  bad : is-domain d ≡ false → Does (clear d) l ys (renamed l d) ys
+module _ (l : DayList) (d : Octets) (ys : List Row) where
+  bad : is-domain (without-dot d) ≡ false → Does (clear d) l ys (renamed l d) ys
   unfolding renamed gives cleared refusal-of left-by list-after is-accepted _>>=_ refuse-if
   bad e = record { answers = rw e refl; leaves = rw e refl; goes-on = rw e refl }
 
-  good : is-domain d ≡ true → Does (clear d) l ys (renamed l d) (emptied-rows ys)
+  good : is-domain (without-dot d) ≡ true → Does (clear d) l ys (renamed l d) (emptied-rows ys)
   unfolding renamed gives cleared refusal-of left-by list-after is-accepted listing _>>=_ refuse-if
   good e = record { answers = rw e refl; leaves = rw (e, has-name d e) refl; goes-on = rw e refl }
 
   pub clear-refused : not (is-accepted (renamed l d .refusal)) ≡ true → Does (clear d) l ys (renamed l d) ys
   unfolding renamed is-accepted
-  clear-refused h = go (is-domain d) refl
+  clear-refused h = go (is-domain (without-dot d)) refl
     where
-      go : (b : Bool) → is-domain d ≡ b → Does (clear d) l ys (renamed l d) ys
+      go : (b : Bool) → is-domain (without-dot d) ≡ b → Does (clear d) l ys (renamed l d) ys
       go true e = absurd (true→T {b = false} (rw e at h))
       go false e = bad e
 
   pub clear-done : not (is-accepted (renamed l d .refusal)) ≡ false → Does (clear d) l ys (renamed l d) (emptied-rows ys)
   unfolding renamed is-accepted
-  clear-done h = go (is-domain d) refl
+  clear-done h = go (is-domain (without-dot d)) refl
     where
-      go : (b : Bool) → is-domain d ≡ b → Does (clear d) l ys (renamed l d) (emptied-rows ys)
+      go : (b : Bool) → is-domain (without-dot d) ≡ b → Does (clear d) l ys (renamed l d) (emptied-rows ys)
       go false e = absurd (true→T {b = false} (sym (rw e at h)))
       go true e = good e
 
 -- ------------------------------------------------------------------ entering
 
-module _ (e : Entry) (d : Domain) (l : DayList) (ys : List Row) where
+module _ (e : Entry) (d : Octets) (l : DayList) (ys : List Row) where
   abbrev number : ℕ
   number = check-number (domain-in l) e d
 

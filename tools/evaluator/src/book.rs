@@ -1,5 +1,6 @@
 //! Demand 3's book: what a list of calls gives back and leaves in lent memory.
 
+use crate::domain::without_dot;
 use crate::evaluate::{evaluate, Evaluation, Progress};
 use crate::refusal::Refusal;
 use crate::report;
@@ -66,6 +67,7 @@ impl Book {
         answer: Answer,
         scratch: &mut [u8],
     ) -> Result<(), Refusal> {
+        let name = without_dot(name);
         let now_asked = |asked: &Vec<u8>| asked.eq_ignore_ascii_case(name);
         if !self.asked.as_ref().is_some_and(now_asked) {
             return Err(Refusal::new(5, 0));

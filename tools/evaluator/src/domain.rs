@@ -13,15 +13,23 @@ pub const PREFIX: &[u8] = b"_dmarc.";
 /// domain of a psd=y record at the last 7.
 pub const MOST_LAST_LABELS: usize = 8;
 
-/// A domain that keeps the rule, in lower case ("ASCII case never matters").
+/// A domain that keeps the rule, in lower case ("ASCII case never matters") and
+/// without a final dot.
 #[derive(Clone, Debug, PartialEq, Eq)]
 pub struct Domain {
     octets: Vec<u8>,
 }
 
-/// Where a text breaks the domain rule, if it does: "where the first bad label
-/// begins; 0 if empty; 253 if only the length is wrong".
+/// Ask 5 of document 02: "Let every domain we take ... end in one dot, which is
+/// dropped before anything else is judged."
+pub fn without_dot(text: &[u8]) -> &[u8] {
+    text.strip_suffix(b".").unwrap_or(text)
+}
+
+/// Where a text breaks the domain rule without its final dot, if it does: "where
+/// the first bad label begins; 0 if empty; 253 if only the length is wrong".
 pub fn fault(text: &[u8]) -> Option<usize> {
+    let text = without_dot(text);
     let mut begin = 0;
     for label in text.split(|octet| *octet == b'.') {
         if !good_label(label) {
@@ -68,12 +76,12 @@ pub fn label_pass(domain: &[u8]) -> LabelPass {
 }
 
 impl Domain {
-    /// Reads a domain, or says where it breaks the rule.
+    /// Reads a domain, which may end in a dot, or says where it breaks the rule.
     pub fn read(text: &[u8]) -> Result<Domain, usize> {
         match fault(text) {
             Some(place) => Err(place),
             None => Ok(Domain {
-                octets: text.to_ascii_lowercase(),
+                octets: without_dot(text).to_ascii_lowercase(),
             }),
         }
     }

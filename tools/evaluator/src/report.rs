@@ -1,6 +1,6 @@
 //! The report file name and the Identity-Alignment field.
 
-use crate::domain;
+use crate::domain::Domain;
 use crate::refusal::Refusal;
 use crate::start::{Kind, Message};
 use crate::verdict::{Alignment, DmarcResult, Verdict};
@@ -30,15 +30,12 @@ pub struct FileName<'a> {
 
 /// "For a file name: 11, 10."
 pub fn file_name(parts: &FileName, out: &mut [u8]) -> Result<usize, Refusal> {
-    let bad_domain = |text: &[u8]| domain::fault(text).is_some();
-    let bad = bad_domain(parts.receiver)
-        || bad_domain(parts.policy_domain)
-        || parts.id.is_some_and(bad_id)
-        || parts.begin > parts.end;
-    if bad {
+    let domain = |text: &[u8]| Domain::read(text).map_err(|_| Refusal::new(11, 0));
+    let (receiver, policy) = (domain(parts.receiver)?, domain(parts.policy_domain)?);
+    if parts.id.is_some_and(bad_id) || parts.begin > parts.end {
         return Err(Refusal::new(11, 0));
     }
-    lend(&file_name_text(parts), out)
+    lend(&file_name_text(&receiver, &policy, parts), out)
 }
 
 fn bad_id(id: &[u8]) -> bool {
@@ -47,10 +44,8 @@ fn bad_id(id: &[u8]) -> bool {
 
 /// "receiver `!` policy domain `!` begin `!` end, then optionally `!` id, then
 /// `.xml`; domains in lower case"
-fn file_name_text(parts: &FileName) -> Vec<u8> {
-    let mut text = parts.receiver.to_ascii_lowercase();
-    text.push(b'!');
-    text.extend(parts.policy_domain.to_ascii_lowercase());
+fn file_name_text(receiver: &Domain, policy: &Domain, parts: &FileName) -> Vec<u8> {
+    let mut text = [receiver.octets(), policy.octets()].join(&b'!');
     text.extend(format!("!{}!{}", parts.begin, parts.end).bytes());
     if let Some(id) = parts.id {
         text.push(b'!');

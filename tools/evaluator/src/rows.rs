@@ -1,7 +1,7 @@
 //! Ask 1 of document 02: a day's verdicts gathered in rows, one list for one
 //! policy domain.
 
-use crate::domain::Domain;
+use crate::domain::{without_dot, Domain};
 use crate::refusal::Refusal;
 use crate::report::judged;
 use crate::start::{Kind, Message};
@@ -127,10 +127,10 @@ impl DayList {
         Ok(())
     }
 
-    /// "ASCII case never matters."
+    /// "ASCII case never matters", nor does a final dot.
     fn serves(&self, domain: &[u8]) -> bool {
         let own = self.domain();
-        own.is_some_and(|own| own.eq_ignore_ascii_case(domain))
+        own.is_some_and(|own| own.eq_ignore_ascii_case(without_dot(domain)))
     }
 }
 

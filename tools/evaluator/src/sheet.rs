@@ -2,7 +2,7 @@
 
 use std::collections::HashMap;
 
-use crate::domain::{self, Domain};
+use crate::domain::{fault, without_dot, Domain};
 use crate::evaluate::{evaluate, Progress};
 use crate::grounds::Grounds;
 use crate::refusal::Refusal;
@@ -17,6 +17,7 @@ pub const MOST_OCTETS: usize = 65_536;
 /// An `AN` record.
 #[derive(Clone, Copy, Debug, PartialEq, Eq)]
 pub struct GivenAnswer<'a> {
+    /// As it stands there, with its final dot if it has one.
     pub name: &'a [u8],
     pub answer: Answer<'a>,
 }
@@ -26,7 +27,8 @@ pub struct GivenAnswer<'a> {
 pub struct Sheet<'a> {
     pub message: GivenMessage<'a>,
     pub answers: Vec<GivenAnswer<'a>>,
-    /// Where each answered name stands among the answers, by lower case.
+    /// Where each answered name stands among the answers, by lower case and
+    /// without a final dot.
     by_name: HashMap<Vec<u8>, usize>,
 }
 
@@ -132,7 +134,7 @@ fn answer(body: &[u8]) -> Option<GivenAnswer<'_>> {
         _ => return None,
     };
     let (name, bytes) = rest.split_at_checked(usize::from(*length))?;
-    let whole = domain::fault(name).is_none() && (status == Status::Records || bytes.is_empty());
+    let whole = fault(name).is_none() && (status == Status::Records || bytes.is_empty());
     whole.then_some(GivenAnswer {
         name,
         answer: Answer { status, bytes },
@@ -142,7 +144,8 @@ fn answer(body: &[u8]) -> Option<GivenAnswer<'_>> {
 impl<'a> Sheet<'a> {
     fn take_answer(&mut self, answer: GivenAnswer<'a>) -> Option<()> {
         let index = self.answers.len();
-        let earlier = self.by_name.insert(answer.name.to_ascii_lowercase(), index);
+        let name = without_dot(answer.name).to_ascii_lowercase();
+        let earlier = self.by_name.insert(name, index);
         self.answers.push(answer);
         earlier.is_none().then_some(())
     }

@@ -20,7 +20,7 @@ const REFUSALS: [(u8, &str, &str); 6] = [
     (
         1,
         "the author domain breaks the domain rule",
-        "the octet of the domain where its first bad label begins; 0 if it is empty, 253 if only its length is wrong",
+        "the octet of the domain where its first bad label begins; 0 if it is empty, 253 if only its length is wrong; a final dot does not count",
     ),
     (
         2,

@@ -11,7 +11,7 @@ use Rattle.octets.specs.Refusing.{OrRefused, ok, not-ok, refusal}
 use Rattle.octets.specs.Lent.{written-if, left-if}
 use Rattle.lookup.specs.Lookup.{Name, Answers, Standing, needs, has, run-over}
 use Rattle.domain.specs.declared.Octet.{Octet}
-use Rattle.domain.specs.Domain.{asked-name}
+use Rattle.domain.specs.Domain.{without-dot, asked-name}
 use Rattle.txt.specs.declared.Status.{Status}
 use Rattle.txt.specs.declared.Reply.{Reply}
 use Rattle.txt.specs.declared.Taken.{Taken}
@@ -101,9 +101,9 @@ view-next v = if v .started then view-next-by v (view-standing v) else (v, given
 
 -- ------------------------------------------------------------------ answer
 
--- whether a name is the one now asked, "in either case"
+-- whether a name is the one now asked, "in either case", and with a final dot or without
 unfoldable pub is-asked : View → (name : Octets) → Bool
-is-asked v name = elim (v .asked) [ nothing ↦ false | just n ↦ same-text name n ]
+is-asked v name = elim (v .asked) [ nothing ↦ false | just n ↦ same-text (without-dot name) n ]
 
 unfoldable pub view-taken : View → Name → (after : Octets) → Taken → View × Given
 view-taken v n after (Taken.Reply r) = (keeping v n r, given accepted after)
@@ -116,7 +116,7 @@ has-room v = ltb (length (v .replies)) 136
 unfoldable pub view-answer-asked : View → (name : Octets) → Answer → (scratch : Octets) → Option Name → View × Given
 view-answer-asked v name a scratch nothing = (v, given (refused (refusal 5 0)) scratch)
 view-answer-asked v name a scratch (just n) =
-    if same-text name n && has-room v then view-taken v n (left-after a scratch) (taken a scratch) else (v, given (refused (refusal 5 0)) scratch)
+    if same-text (without-dot name) n && has-room v then view-taken v n (left-after a scratch) (taken a scratch) else (v, given (refused (refusal 5 0)) scratch)
 
 unfoldable pub view-answer : View → (name : Octets) → Status → (bytes scratch : Octets) → View × Given
 view-answer v name status bytes scratch = view-answer-asked v name (answer-of status bytes) scratch (v .asked)

@@ -50,6 +50,9 @@ first v m h k =
     let s = v .before .before .before .before in
     ⊎-elim (λ w. held-spf h (s .smaller .result) (s .smaller .ensures) ∙ sym (w .4 .ensures _) ∙ w .5 .left) (λ w. absurd (w .left k)) (v .if4 .came)
 
+without-dot-requires : tie.Need-without-dot-requires
+without-dot-requires c κs = search needs
+
 is-domain-requires : tie.Need-is-domain-requires
 is-domain-requires c κs = search needs
 
@@ -57,15 +60,15 @@ refused-requires-5 : tie.Need-refused-requires-5
 refused-requires-5 c κs = search needs
 
 returns-5 : tie.Need-returns-5
-returns-5 c m h = let d = c .before .before in let b = d .before .before in let s = b .before .before .before in adding-refused h (s .smaller .result) (s .smaller .ensures) _ (bad-domain _ _ _ (b .before .before .if1 .left) (b .before .if2 .left) (b .if3 .left) (first (d .before) m h) (sym (d .is-domain .ensures) ∙ not-true _ (c .before .if6 .taken))) (c .refused5 .ensures)
+returns-5 c m h = let d = c .before .before in let taken = d .before in let b = taken .before .before in let s = b .before .before .before in adding-refused h (s .smaller .result) (s .smaller .ensures) _ (bad-domain _ _ _ (b .before .before .if1 .left) (b .before .if2 .left) (b .if3 .left) (first (taken .before) m h) (taken .without-dot .ensures) (sym (d .is-domain .ensures) ∙ not-true _ (c .before .if6 .taken))) (c .refused5 .ensures)
 
 store-requires : tie.Need-store-requires
 store-requires c κs =
     let d = c .before in
-    (omega (arith, d .before .before .if3 .left, d .before .before .before .before .before .smaller .ensures), domain-short _ (sym (d .is-domain .ensures) ∙ not-false _ (c .if6 .left)))
+    (omega (arith, d .before .before .before .if3 .left, d .before .before .before .before .before .before .smaller .ensures), domain-short _ (sym (d .is-domain .ensures) ∙ not-false _ (c .if6 .left)))
 
 returns-6 : tie.Need-returns-6
-returns-6 c m h = let d = c .before .before in let b = d .before .before in let s = b .before .before .before in adding-ok h (s .smaller .result) (s .smaller .ensures) _ (good-identifier _ _ _ (b .before .before .if1 .left) (b .before .if2 .left) (b .if3 .left) (first (d .before) m h) (sym (d .is-domain .ensures) ∙ not-false _ (c .before .if6 .left))) (c .store .ensures m h)
+returns-6 c m h = let d = c .before .before in let taken = d .before in let b = taken .before .before in let s = b .before .before .before in adding-ok h (s .smaller .result) (s .smaller .ensures) _ (good-identifier _ _ _ (b .before .before .if1 .left) (b .before .if2 .left) (b .if3 .left) (first (taken .before) m h) (taken .without-dot .ensures) (sym (d .is-domain .ensures) ∙ not-false _ (c .before .if6 .left))) (c .store .ensures m h)
 
 pub add-spec : {M : Type 1} → statement M
 add-spec =
@@ -81,6 +84,7 @@ add-spec =
     has-spf-requires
     refused-requires-4
     returns-4
+    without-dot-requires
     is-domain-requires
     refused-requires-5
     returns-5

@@ -6,6 +6,7 @@ use Prim.Native.Nat.{ℕ}
 use lib.ListN.{length, getD}
 use Rattle.octets.specs.Octets.{Octets, any, lower}
 use Rattle.octets.specs.Refusing.{_>>=_, OrRefused, ok, not-ok, refusal, numbered, or-refuse}
+use Rattle.domain.specs.Domain.{without-dot}
 use Rattle.alignment.specs.Alignments.{Identifier}
 use Rattle.verdict.specs.declared.Existence.{Existence}
 use Rattle.verdict.specs.Message.{Message, existences, supports}
@@ -24,10 +25,10 @@ existence-in n = getD existences n Existence.Unknown
 -- "1, then the message's 3"
 unfoldable pub opening : (author : Octets) → (existence support : ℕ) → OrRefused Message
 opening author existence support = do
-  _ ← good-author author
+  _ ← good-author (without-dot author)
   e ← or-refuse (numbered existences existence) (refusal 3 255)
   s ← or-refuse (numbered supports support) (refusal 3 255)
-  ok (record { author = lower author; existence = e; support = s; identifiers = [] })
+  ok (record { author = lower (without-dot author); existence = e; support = s; identifiers = [] })
 
 unfoldable pub with-identifier : Message → Identifier → Message
 with-identifier m i = record { author = m .author; existence = m .existence; support = m .support; identifiers = m .identifiers ++ (i ∷ []) }

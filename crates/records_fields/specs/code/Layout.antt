@@ -8,6 +8,7 @@ use lib.ListN.{length, take, drop, getD}
 use Rattle.octets.specs.Octets.{Octets, octets, same, same-text, if_then_else_}
 use Rattle.octets.specs.Framing.{mark-of, size-of, body-of, after-record}
 use Rattle.octets.specs.Refusing.{ok, not-ok, refusal}
+use Rattle.domain.specs.Domain.{without-dot}
 use Rattle.txt.specs.declared.Status.{Status}
 use Rattle.records.specs.Sheet.{Entry, status-of, entry-of, entries}
 use Rattle.records_fields.specs.declared.Scanned.{Scanned}
@@ -23,9 +24,9 @@ listed (suc k) t = onto (entry-of t) (listed k (after-record t))
 
 -- ------------------------------------------------------------------ the answer at a name
 
--- the name in an answer's body
+-- the name in an answer's body, without a final dot
 unfoldable pub name-in : Octets → Octets
-name-in body = take (getD body 1 0) (drop 2 body)
+name-in body = without-dot (take (getD body 1 0) (drop 2 body))
 
 unfoldable pub answers-name : (name : Octets) → Octets → Bool
 answers-name name t = same (mark-of t) (octets "AN") && same-text (name-in (body-of t)) name

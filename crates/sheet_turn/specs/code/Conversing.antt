@@ -6,15 +6,17 @@ use mathlib.Core.Option.{none as nothing}
 use Prim.Native.Nat.{ℕ, _+_, _*_, _≤_}
 use lib.ListN.{length, take}
 use Rattle.octets.specs.Octets.{Octets, any}
+use Rattle.octets.specs.Refusing.{ok}
 use Rattle.lookup.specs.Lookup.{Name, names, Completes, needs}
 use Rattle.txt.specs.Answers.{Answer}
 use Rattle.verdict.specs.Message.{Message}
+use Rattle.book.specs.Start.{GivenMessage, started}
 use Rattle.book.specs.Book.{Call, next, standing}
 use Rattle.book.specs.BookClaims.{book-after}
 use Rattle.evaluation.specs.declared.Evaluation.{Evaluation}
 use Rattle.evaluation.specs.code.View.{view, shown}
 use Rattle.records.specs.Sheet.{answer-at}
-use Rattle.records_fields.specs.code.Layout.{listed, Whole}
+use Rattle.records_fields.specs.code.Layout.{listed}
 use Rattle.sheet_turn.specs.declared.Turn.{Turn}
 use Rattle.sheet.specs.Printed.{ask-lines, unreadable, evaluated-over, text-of}
 
@@ -33,7 +35,8 @@ pub record Conversing (m : Message) (α : Name → Answer) (turns : ℕ) (e : Ev
   pub prints : take at lines ≡ ask-lines (names (book-after m calls .answers))
   pub short : at ≤ 265 * turns
   pub turned : turns ≡ length (names (book-after m calls .answers))
-  pub few : length (m .identifiers) ≤ 16
+  pub handed : GivenMessage
+  pub starts : started handed ≡ ok m
   pub room : length lines ≡ 36864
 
 -- a name is asked: the conversation before the next step asked it, and the evaluation book-after that step

@@ -1,4 +1,4 @@
-//! Policy domains: good ones, bad ones, and ones near another.
+//! Policy domains: good ones, bad ones, other spellings, and ones near another.
 
 use sheets::random::Random;
 
@@ -12,7 +12,7 @@ pub fn longest() -> Vec<u8> {
     too_long().split_off(2)
 }
 
-/// Domains that keep the rule.
+/// Domains that keep the rule, without a final dot.
 pub fn good() -> Vec<Vec<u8>> {
     let mut good: Vec<Vec<u8>> = [
         "example.com",
@@ -34,10 +34,15 @@ pub fn bad() -> Vec<Vec<u8>> {
         "",
         ".",
         "..",
+        "...",
         ".com",
-        "example.com.",
+        ".com.",
+        "example.com..",
+        "example.com...",
         "a..b",
+        "a..b.",
         "a b.c",
+        "a b.c.",
         "*.com",
     ]
     .map(|domain| domain.as_bytes().to_vec())
@@ -49,13 +54,23 @@ pub fn bad() -> Vec<Vec<u8>> {
     bad.push([&[b'z'; 64], b".com".as_slice()].concat());
     bad.push([b"a.", [b'z'; 64].as_slice()].concat());
     bad.push(too_long().split_off(1));
+    bad.push([too_long().split_off(1), b".".to_vec()].concat());
+    bad.push([longest(), b"..".to_vec()].concat());
     bad.push(too_long());
     bad.push([too_long(), b".com".repeat(20)].concat());
     bad
 }
 
-/// A domain in any case.
-pub fn any_case(random: &mut Random, domain: &[u8]) -> Vec<u8> {
+/// A domain in any case, now and then with a final dot.
+pub fn any_spelling(random: &mut Random, domain: &[u8]) -> Vec<u8> {
+    let mut spelled = any_case(random, domain);
+    if random.percent(15) {
+        spelled.push(b'.');
+    }
+    spelled
+}
+
+fn any_case(random: &mut Random, domain: &[u8]) -> Vec<u8> {
     match random.below(4) {
         0 => domain.to_ascii_lowercase(),
         1 => domain.to_ascii_uppercase(),
@@ -72,11 +87,12 @@ pub fn any_case(random: &mut Random, domain: &[u8]) -> Vec<u8> {
     }
 }
 
-/// A text near a domain, now and then the same in another case.
+/// A text near a domain, now and then the same in another spelling.
 pub fn near(random: &mut Random, domain: &[u8]) -> Vec<u8> {
     let mut text = domain.to_vec();
-    match random.below(8) {
+    match random.below(9) {
         0 => text.push(b'.'),
+        5 => text.extend(b".."),
         1 => text.push(b'x'),
         2 => text.insert(0, b'x'),
         3 => {

@@ -128,8 +128,8 @@ impl Maker {
             false => self.random.below(self.good.len()),
         };
         let domain = self.good.get(at).cloned().unwrap_or_default();
-        let domain = domains::any_case(&mut self.random, &domain);
-        self.history.clear(&domain);
+        let spelled = domains::any_spelling(&mut self.random, &domain);
+        self.history.clear(&spelled);
         self.named = Some(domain);
     }
 
@@ -174,11 +174,11 @@ impl Maker {
         });
     }
 
-    /// The domain that the list now serves, in any case.
+    /// The domain that the list now serves, in any spelling.
     fn own_domain(&mut self) -> Vec<u8> {
         let first = self.good.first().cloned();
         let own = self.named.clone().or(first).unwrap_or_default();
-        domains::any_case(&mut self.random, &own)
+        domains::any_spelling(&mut self.random, &own)
     }
 
     fn domain(&mut self) -> Vec<u8> {

@@ -77,6 +77,7 @@ pub fn histories() -> Vec<Named> {
         ("numbers of results and dispositions", numbers()),
         ("cleared for one domain after another", renamed()),
         ("near the list's domain", near()),
+        ("final dots", final_dots()),
         ("bad policy domains", refused_clearings()),
         ("rows near one another", neighbours()),
         ("rows with unlisted dispositions", unlisted()),
@@ -154,12 +155,29 @@ fn near() -> History {
             history.enter(of(seen(0), front));
             history.enter(of(seen(0), back));
         }
-        history.enter(of(seen(0), &[domain, b"."].concat()));
         history.enter(of(seen(0), &[domain, domain].concat()));
         history.enter(of(seen(0), &longest()));
     }
     history.clear(&longest());
     history.enter(of(seen(0), &[longest(), vec![0]].concat()));
+    history
+}
+
+/// Each good domain cleared without a final dot and with one, and entered with
+/// none, one, two and three.
+fn final_dots() -> History {
+    let mut history = rows(&[1, 2, 3]);
+    let with = |domain: &[u8], dots: usize| [domain, &b".".repeat(dots)].concat();
+    for domain in good() {
+        for cleared in [0, 1, 2, 1] {
+            history.clear(&with(&domain, cleared));
+            for dots in 0..4 {
+                history.enter(of(seen(0), &with(&domain, dots)));
+            }
+            history.enter(of(seen(0), b"."));
+            history.enter(of(seen(0), b""));
+        }
+    }
     history
 }
 

@@ -16,7 +16,7 @@ const SEED: u64 = 5;
 #[test]
 fn rows_that_keep_the_rules() {
     let line = compare(&Twin(Wrong::Nothing), 1_000, SEED).expect("agreement");
-    assert!(line.starts_with("agree on 1019 histories, "), "{line}");
+    assert!(line.starts_with("agree on 1020 histories, "), "{line}");
     for number in [11, 12, 13, 14, 27] {
         assert!(line.contains(&format!(" refused {number}")), "{line}");
         assert!(!line.contains(&format!(" 0 refused {number}")), "{line}");
@@ -135,6 +135,12 @@ fn the_sums_are_of_the_calls_alone() {
     assert_eq!(sums.check(&[row(1, 0)]), Ok(()));
 }
 
+/// Whether a domain ends in these dots, and in no more.
+fn ends_in(domain: &[u8], dots: &str) -> bool {
+    let front = domain.strip_suffix(dots.as_bytes());
+    front.is_some_and(|front| !front.is_empty() && !front.ends_with(b"."))
+}
+
 /// What the generated histories have in them.
 #[test]
 fn the_histories_have_everything() {
@@ -154,5 +160,24 @@ fn the_histories_have_everything() {
     let uncleared =
         |history: &History| matches!(history.acts.first(), Some(Act::Call(Call::Enter(_))));
     assert!(histories.iter().any(uncleared));
+    for dots in [".", ".."] {
+        let of = |clears: bool| {
+            let ends = |act: &Act| match act {
+                Act::Call(Call::Clear(domain)) => clears && ends_in(domain, dots),
+                Act::Call(Call::Enter(entry)) => !clears && ends_in(&entry.finding.domain, dots),
+                Act::Write { .. } => false,
+            };
+            histories
+                .iter()
+                .filter(|own| own.acts.iter().any(ends))
+                .count()
+        };
+        assert!(
+            of(true) > 20 && of(false) > 20,
+            "{} {}",
+            of(true),
+            of(false)
+        );
+    }
     assert!(histories[3] == history(SEED, 3));
 }

@@ -164,7 +164,7 @@ fn point_31_the_name_is_compared_whole_and_in_either_case() {
     let long = vec![b'x'; 70_000];
     let names: [&[u8]; 7] = [
         b"example.com",
-        b"_dmarc.example.com.",
+        b"_dmarc.example.com..",
         b"_dmarc.com",
         b"",
         b"_dmarc.example.co",

@@ -1,5 +1,5 @@
 //! Tests whose expected values come from the documents: document 01, Asks 1
-//! to 4 of document 02, the agreed readings (by their point numbers) and RFC 9989.
+//! to 5 of document 02, the agreed readings (by their point numbers) and RFC 9989.
 
 mod case;
 mod octets;
@@ -7,6 +7,7 @@ mod octets;
 mod answers;
 mod book;
 mod disposition;
+mod final_dot;
 mod labels;
 mod policy_text;
 mod publishing;

@@ -93,7 +93,7 @@ fn point_97_11_has_place_0_and_comes_before_10() {
         ..SAMPLE
     });
     refused(FileName {
-        policy_domain: b"a.b.",
+        policy_domain: b"a.b..",
         ..SAMPLE
     });
     refused(FileName {

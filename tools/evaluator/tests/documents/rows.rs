@@ -216,7 +216,7 @@ fn point_119_another_policy_domain() {
         "",
         "example.org",
         "example.co",
-        "example.com.",
+        "example.com..",
         "www.example.com",
     ] {
         let mut other = entry(0);
@@ -279,7 +279,7 @@ fn point_122_a_bad_policy_domain_changes_nothing() {
     let bad = [
         String::new(),
         ".".to_string(),
-        "example.com.".to_string(),
+        "example.com..".to_string(),
         "example..com".to_string(),
         "ex ample.com".to_string(),
         format!("{label}x.com"),

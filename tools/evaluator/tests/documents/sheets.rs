@@ -147,7 +147,7 @@ fn point_106_the_name_of_an_answer() {
         String::new(),
         "a..b".into(),
         "a b".into(),
-        "a.".into(),
+        "a..".into(),
     ] {
         refused(&[author(), an(1, name.as_bytes(), b"")].concat(), 8, 17);
     }

@@ -67,7 +67,8 @@ fn point_11_place_of_refusal_1() {
         (String::new(), 0),
         (".".to_string(), 0),
         (".a".to_string(), 0),
-        ("a.".to_string(), 2),
+        // One final dot is dropped: `final_dot` has more of these.
+        ("a..".to_string(), 2),
         ("a..b".to_string(), 2),
         ("ok.a b.com".to_string(), 3),
         (format!("x.{}", letters(64)), 2),
@@ -85,7 +86,7 @@ fn point_11_place_of_refusal_1() {
 
 #[test]
 fn point_12_the_empty_last_label_begins_at_the_length() {
-    assert_eq!(message(b"a.b.", 1, 1), Err(refusal(1, 4)));
+    assert_eq!(message(b"a.b..", 1, 1), Err(refusal(1, 4)));
     let good_253 = [
         "x".repeat(63),
         "x".repeat(63),
@@ -95,7 +96,7 @@ fn point_12_the_empty_last_label_begins_at_the_length() {
     .join(".");
     assert_eq!(good_253.len(), 253);
     assert_eq!(message(good_253.as_bytes(), 1, 1), Ok(()));
-    let dotted = good_253 + ".";
+    let dotted = good_253 + "..";
     assert_eq!(message(dotted.as_bytes(), 1, 1), Err(refusal(1, 254)));
 }
 

@@ -58,7 +58,15 @@ pub fn recased(random: &mut Random, name: Vec<u8>, rate: usize) -> Vec<u8> {
     name.into_iter().map(flip).collect()
 }
 
-/// A good domain of any shape.
+/// A domain or name with a final dot, in so many cases of a hundred.
+pub fn dotted(random: &mut Random, mut name: Vec<u8>, rate: usize) -> Vec<u8> {
+    if random.percent(rate) {
+        name.push(b'.');
+    }
+    name
+}
+
+/// A good domain of any shape, without a final dot.
 pub fn author(random: &mut Random) -> Vec<u8> {
     let domain = match random.below(40) {
         0..=19 => {
@@ -144,14 +152,20 @@ fn below(random: &mut Random, domain: &[u8]) -> Vec<u8> {
     }
 }
 
-/// Domains that break the rule in each way.
+/// Domains that break the rule in each way, at times with a final dot.
 pub fn bad(random: &mut Random) -> Vec<u8> {
+    let bad = bad_without_dot(random);
+    dotted(random, bad, 15)
+}
+
+/// Domains that break the rule with a final dot or without.
+fn bad_without_dot(random: &mut Random) -> Vec<u8> {
     let good = author(random);
     match random.below(12) {
         0 => Vec::new(),
         1 => b".".to_vec(),
         2 => [b".".as_slice(), &good].concat(),
-        3 => [good.as_slice(), b"."].concat(),
+        3 => [good.as_slice(), b".."].concat(),
         4 => [good.as_slice(), b"..", &words(random, 1)].concat(),
         5 | 6 => with_foreign_octet(random, good),
         7 => {

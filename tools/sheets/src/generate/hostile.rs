@@ -15,7 +15,7 @@ use records::{MARKS, RECORD_FAULTS};
 
 /// Spoils a sheet in one way, or in a few.
 pub fn spoil(random: &mut Random, mut draft: Draft) -> Vec<u8> {
-    if random.below(240) == 0 {
+    if random.below(200) == 0 {
         return large(random, &draft);
     }
     let ways = DRAFT_FAULTS.len() + RECORD_FAULTS.len() + OCTET_FAULTS.len();

@@ -24,11 +24,36 @@ fn weather(random: &mut Random) -> Weather {
     }
 }
 
-/// A valid message with its answers.
+/// A valid message with its answers, some domains with a final dot.
 pub fn draft(random: &mut Random) -> Draft {
-    if random.below(150) == 0 {
-        return wide_draft(random);
+    let mut draft = match random.below(150) {
+        0 => wide_draft(random),
+        _ => usual_draft(random),
+    };
+    add_dots(random, &mut draft);
+    let mut length = draft.octets().len();
+    while length > MOST_OCTETS {
+        let dropped = draft.answers.pop().map(|answer| answer.record().body.len());
+        length = length.saturating_sub(dropped.map_or(length, |body| body + 4));
     }
+    draft
+}
+
+/// Final dots in few of its domains and names, or in many.
+fn add_dots(random: &mut Random, draft: &mut Draft) {
+    let rate = random.pick(&[0, 0, 4, 40]);
+    let identifiers = draft.identifiers.iter_mut().map(|own| &mut own.domain);
+    let names = draft.answers.iter_mut().map(|answer| &mut answer.name);
+    for domain in [&mut draft.author]
+        .into_iter()
+        .chain(identifiers)
+        .chain(names)
+    {
+        *domain = domains::dotted(random, std::mem::take(domain), rate);
+    }
+}
+
+fn usual_draft(random: &mut Random) -> Draft {
     let author = domains::author(random);
     let mut draft = Draft {
         existence: random.pick(&[0, 1, 1, 2]),
@@ -38,11 +63,6 @@ pub fn draft(random: &mut Random) -> Draft {
         answers: Vec::new(),
     };
     add_answers(random, &mut draft);
-    let mut length = draft.octets().len();
-    while length > MOST_OCTETS {
-        let dropped = draft.answers.pop().map(|answer| answer.record().body.len());
-        length = length.saturating_sub(dropped.map_or(length, |body| body + 4));
-    }
     draft
 }
 

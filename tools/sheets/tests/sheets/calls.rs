@@ -282,10 +282,13 @@ fn refused_starts() {
     let with =
         |front: &[&[u8]], last: &[u8]| start(1, 1, b"other.test", &[front.concat(), last.to_vec()]);
     let authored = |author: &[u8]| start(1, 1, author, &[item(1, 1, b"example.com")]);
-    let table: [(Vec<u8>, &str); 19] = [
+    let table: [(Vec<u8>, &str); 25] = [
         // "0 if empty", and where the first bad label begins.
         (authored(b""), "1 at 0"),
-        (authored(b"com."), "1 at 4"),
+        (authored(b"."), "1 at 0"),
+        (authored(b".."), "1 at 0"),
+        (authored(b"com.."), "1 at 4"),
+        (authored(b"a b."), "1 at 0"),
         (authored(b"a.b.c.\0"), "1 at 6"),
         // 1 before any 3.
         (start(3, 2, b"a.b..c", &[item(2, 3, b"")]), "1 at 4"),
@@ -302,6 +305,10 @@ fn refused_starts() {
         (with(&[&sixteen], &bad), "4 at 16"),
         (with(&[&sixteen], &item(2, 1, b"a.b")), "3 at 16"),
         (with(&[&good, &bad], &item(9, 9, b"")), "2 at 1"),
+        // Final dots.
+        (with(&[], &item(1, 1, b".")), "2 at 0"),
+        (with(&[&good], &item(0, 1, b"..")), "2 at 1"),
+        (with(&[], &item(1, 2, b"a.b..")), "2 at 0"),
         // The mark is not looked at.
         (with(&[b"AN\0\x05\x01\x01a.b"], &bad), "2 at 1"),
         // Cut: a number that is not there is not listed, and a domain that is
@@ -320,16 +327,75 @@ fn refused_starts() {
     }
 }
 
-/// "Only the length is wrong", with a label that begins after octet 253 or not.
+/// "Only the length is wrong", with a label that begins after octet 253 or not;
+/// 253 octets and a final dot, and two of them.
 #[test]
 fn authors_over_253_octets() {
+    let mut said = BTreeMap::new();
     for (kind, body, line) in calls() {
         if kind == b'S' && body[2] > 253 {
-            let foreign = body[3..].contains(&b' ');
-            let expected = if foreign { "1 at 252" } else { "1 at 253" };
-            assert_eq!(line, format!("start refused {expected}"));
+            let author = &body[3..3 + usize::from(body[2])];
+            let expected = match author {
+                _ if author.contains(&b' ') => "start refused 1 at 252",
+                [.., b'.', b'.'] => "start refused 1 at 254",
+                [.., b'.'] if author.len() == 254 => "start accepted",
+                _ => "start refused 1 at 253",
+            };
+            assert_eq!(line, expected);
+            *said.entry(expected).or_insert(0) += 1;
         }
     }
+    assert_eq!(said.len(), 4, "{said:?}");
+}
+
+/// Readings 134 and 136.
+#[test]
+fn final_dots() {
+    let calls = calls();
+    let body = start(
+        1,
+        1,
+        b"Example.com.",
+        &[
+            item(0, 1, b"example.com"),
+            item(1, 1, b"mail.example.com."),
+            item(1, 1, b"Mail.Example.com"),
+        ],
+    );
+    let names = ["example.com", "com", "mail.example.com"];
+    let own = verdict(3, "pass reject none", "example.com", "ann");
+    check(
+        &calls,
+        &body,
+        &names,
+        &own,
+        &finding([1, 0, 0, 1], "example.com"),
+    );
+}
+
+/// Answers to the name now asked whose own spelling has one final dot or two.
+#[test]
+fn final_dots_of_answers() {
+    let (mut one, mut two) = (0, 0);
+    let mut asked = String::new();
+    for (kind, body, line) in calls() {
+        if let Some(name) = line.strip_prefix("next ask ") {
+            asked = name.to_string();
+        }
+        if kind != b'A' {
+            continue;
+        }
+        let name = String::from_utf8_lossy(&body[4..4 + usize::from(body[3])]);
+        let name = name.to_ascii_lowercase();
+        if name == format!("{asked}.") && line.starts_with("answer accepted ") {
+            one += 1;
+        }
+        if name == format!("{asked}..") {
+            assert!(line.starts_with("answer refused 5 at 0 "), "{line}");
+            two += 1;
+        }
+    }
+    assert!(one > 50 && two > 5, "{one} {two}");
 }
 
 #[test]

@@ -4,7 +4,7 @@
 use std::collections::BTreeMap;
 
 use crate::octets::run;
-use evaluator::domain;
+use evaluator::domain::{fault, without_dot};
 use evaluator::grounds::Reason;
 use evaluator::policy::{self, Psd};
 use evaluator::sheet::{read, reasoned, Reasoned, Sheet};
@@ -81,8 +81,10 @@ fn note_message(seen: &mut Seen, reasoned: &Reasoned) {
 /// The answers that the message asked for, and those that it did not.
 fn note_answers(seen: &mut Seen, sheet: &Sheet, reasoned: &Reasoned) {
     for asked in &reasoned.names {
-        let same = |name: &[u8]| name.eq_ignore_ascii_case(&asked.name);
+        let same = |name: &[u8]| without_dot(name).eq_ignore_ascii_case(&asked.name);
         let given = sheet.answers.iter().find(|given| same(given.name));
+        let dotted = given.is_some_and(|given| given.name.ends_with(b"."));
+        seen.note_if(dotted, "a final dot: asked");
         match given.map(|given| given.answer) {
             None => seen.note("asked: no answer on the sheet"),
             Some(answer) if answer.status == Status::Error => seen.note("asked: error"),
@@ -93,8 +95,33 @@ fn note_answers(seen: &mut Seen, sheet: &Sheet, reasoned: &Reasoned) {
     }
     let asked = |name: &[u8]| reasoned.names.iter().any(|asked| asked.name == name);
     for given in &sheet.answers {
-        seen.note_if(!asked(&given.name.to_ascii_lowercase()), "not asked");
+        let name = without_dot(given.name).to_ascii_lowercase();
+        seen.note_if(!asked(&name), "not asked");
+        let dotted = given.name.ends_with(b".");
+        seen.note_if(!asked(&name) && dotted, "a final dot: not asked");
+        seen.note_if(given.name.len() > 253, "a final dot: a name of 253 octets");
     }
+}
+
+/// Final dots of the author and of identifiers.
+fn note_dots(seen: &mut Seen, sheet: &Sheet) {
+    let author = sheet.message.author;
+    seen.note_if(author.ends_with(b"."), "a final dot: author");
+    seen.note_if(author.len() > 253, "a final dot: an author of 253 octets");
+    let identifiers = sheet.message.identifiers.iter();
+    let mut domains = vec![author];
+    domains.extend(identifiers.map(|identifier| identifier.domain));
+    let dotted = |domain: &&&[u8]| domain.ends_with(b".");
+    let identifier = domains.iter().skip(1).any(|domain| dotted(&domain));
+    seen.note_if(identifier, "a final dot: identifier");
+    // One domain in both spellings.
+    let both = domains.iter().filter(dotted).any(|domain| {
+        let plain = without_dot(domain);
+        domains
+            .iter()
+            .any(|other| other.eq_ignore_ascii_case(plain))
+    });
+    seen.note_if(both, "a final dot: one domain in both spellings");
 }
 
 fn note_records(seen: &mut Seen, bytes: &[u8]) {
@@ -191,6 +218,13 @@ const FEATURES: &[&str] = &[
     "an unknown tag twice",
     "a tag twice beside one policy record",
     "a tag twice beside two policy records",
+    "a final dot: author",
+    "a final dot: an author of 253 octets",
+    "a final dot: identifier",
+    "a final dot: one domain in both spellings",
+    "a final dot: asked",
+    "a final dot: not asked",
+    "a final dot: a name of 253 octets",
 ];
 
 #[test]
@@ -200,7 +234,9 @@ fn messages_walks_and_answers() {
         let octets = ordinary(SEED, index);
         let reasoned = reasoned(&octets).expect("a verdict");
         note_message(&mut seen, &reasoned);
-        note_answers(&mut seen, &read(&octets).expect("a sheet"), &reasoned);
+        let sheet = read(&octets).expect("a sheet");
+        note_answers(&mut seen, &sheet, &reasoned);
+        note_dots(&mut seen, &sheet);
     }
     for whose in ["author's", "identifier's"] {
         (1..=12).for_each(|n| seen.needs(format!("{whose} walk from {n} labels")));
@@ -254,14 +290,39 @@ fn answer_cause(body: &[u8]) -> &'static str {
     let Some((name, bytes)) = rest.split_at_checked(usize::from(*length)) else {
         return "103: a name longer than its body";
     };
-    match (domain::fault(name), status) {
+    match (fault(name), status) {
         (_, 3..) => "109: another status",
+        (Some(_), _) if name == b"." => "135: a lone dot as a name",
+        (Some(_), _) if ends_in_two(name) => "135: a name with two final dots",
         (Some(_), _) if name.is_empty() => "106: an empty name",
         (Some(253), _) => "106: a name over 253 octets",
         (Some(_), _) => "106: a bad label in a name",
         (None, 1 | 2) if !bytes.is_empty() => "104: octets after the name",
         (None, _) => "108: a second answer",
     }
+}
+
+/// Whether a text would be a domain but for its second final dot.
+fn ends_in_two(text: &[u8]) -> bool {
+    fault(text).is_some() && text.ends_with(b"..") && fault(without_dot(text)).is_none()
+}
+
+/// Whether the answer at a place is the second one of a name that the first
+/// spells with a final dot and this one without, or the other way round.
+fn answered_in_both_spellings(octets: &[u8], place: usize) -> bool {
+    let rest = octets.get(place..).unwrap_or_default();
+    let before = octets.get(..place).and_then(|octets| read(octets).ok());
+    let ([b'A', b'N', _, _, _, length, name @ ..], Some(before)) = (rest, before) else {
+        return false;
+    };
+    let Some(name) = name.get(..usize::from(*length)) else {
+        return false;
+    };
+    let other = |given: &[u8]| {
+        let same = without_dot(given).eq_ignore_ascii_case(without_dot(name));
+        same && given.len() != name.len()
+    };
+    before.answers.iter().any(|given| other(given.name))
 }
 
 const CAUSES: &[&str] = &[
@@ -306,10 +367,31 @@ fn note_refusal(seen: &mut Seen, octets: &[u8]) {
         Ok(_) => seen.note_if(octets.len() > 60_000, "a verdict of a long sheet"),
         Err(refusal) if refusal.number == 8 => {
             seen.note(cause(octets, refusal.place));
-            let bad = domain::fault(author_of(octets)).is_some() && refusal.place > 0;
+            let bad = fault(author_of(octets)).is_some() && refusal.place > 0;
             seen.note_if(bad, "101: 8 where the author is bad too");
             let early = octets.len() > 65_536 && refusal.place < 65_536;
             seen.note_if(early, "102: broken before 65,536 octets");
+            let both = answered_in_both_spellings(octets, refusal.place);
+            seen.note_if(both, "136: a name answered in both spellings");
+        }
+        Err(refusal) if refusal.number == 1 && author_of(octets) == b"." => {
+            seen.note("135: a lone dot as author");
+        }
+        Err(refusal) if refusal.number == 1 && ends_in_two(author_of(octets)) => {
+            seen.note("135: an author with two final dots");
+        }
+        Err(refusal) if refusal.number == 2 => {
+            seen.note(format!("{refusal}"));
+            let at = sheet.ok().and_then(|sheet| {
+                let identifiers = &sheet.message.identifiers;
+                identifiers.get(refusal.place).map(|given| given.domain)
+            });
+            let domain = at.unwrap_or_default();
+            seen.note_if(domain == b".", "135: a lone dot as identifier");
+            seen.note_if(
+                ends_in_two(domain),
+                "135: an identifier with two final dots",
+            );
         }
         Err(refusal) if refusal.number == 3 && refusal.place != 255 => seen.note("3 at an index"),
         Err(refusal) => seen.note(format!("{refusal}")),
@@ -327,6 +409,13 @@ fn broken_sheets_of_every_kind() {
     for feature in [
         "101: 8 where the author is bad too",
         "102: broken before 65,536 octets",
+        "135: a lone dot as author",
+        "135: an author with two final dots",
+        "135: a lone dot as identifier",
+        "135: an identifier with two final dots",
+        "135: a lone dot as a name",
+        "135: a name with two final dots",
+        "136: a name answered in both spellings",
         "a verdict of a long sheet",
         "refused 1 at 0",
         "refused 1 at 253",

@@ -1,6 +1,6 @@
 //! The readable description of a sheet, and back.
 
-use crate::octets::{an, an_error, an_none, an_text, au, id, record, tx};
+use crate::octets::{an, an_error, an_none, an_text, au, id, record, run, tx};
 use sheets::description::{describe, make};
 use sheets::generate::{hostile, ordinary};
 
@@ -53,6 +53,26 @@ fn words_of_numbers() {
     assert_eq!(made(raw), Ok(sheet.clone()));
     assert_eq!(describe(&sheet), raw);
     assert_eq!(made("author hex: exists supported"), Ok(au(1, 1, b"")));
+}
+
+/// Ask 5 of document 02: the sheet has the dot, and the evaluator drops it.
+#[test]
+fn final_dots() {
+    let text = "author Example.com. exists supported
+dkim pass mail.example.com.
+answer _dmarc.example.com. none
+answer _dmarc.com none
+";
+    let sheet = [
+        au(1, 1, b"Example.com."),
+        id(1, 1, b"mail.example.com."),
+        an_none("_dmarc.example.com."),
+        an_none("_dmarc.com"),
+    ]
+    .concat();
+    assert_eq!(made(text), Ok(sheet.clone()));
+    assert_eq!(describe(&sheet), text);
+    assert!(run(&sheet).starts_with("ask _dmarc.example.com\nask _dmarc.com\nresult none\n"));
 }
 
 #[test]
@@ -117,6 +137,8 @@ const BAD_LINES: &[(&str, &str)] = &[
     ("answer b hex 545", "an odd number of hex digits"),
     ("answer b hex \"54\"", "a quoted text after `hex`"),
     ("answer a..b none", "the name breaks the domain rule"),
+    ("answer . none", "the name breaks the domain rule"),
+    ("answer a.. none", "the name breaks the domain rule"),
     ("answer hex: none", "the name breaks the domain rule"),
     ("answer hex:6120 none", "the name breaks the domain rule"),
     ("author b exists supported", "a second author line"),
@@ -166,6 +188,10 @@ const BAD_DESCRIPTIONS: &[(&str, &str)] = &[
     (
         "author a exists supported\nanswer b none\n# again\nanswer B error",
         "line 4: the name is answered already",
+    ),
+    (
+        "author a exists supported\nanswer b none\nanswer B. error",
+        "line 3: the name is answered already",
     ),
     ("sheet 00", "line 1: `hex` expected"),
     (

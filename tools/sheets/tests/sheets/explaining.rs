@@ -229,7 +229,7 @@ fn refusals() {
         [
             "refused 1: the author domain breaks the domain rule",
             "at 3: the octet of the domain where its first bad label begins; \
-             0 if it is empty, 253 if only its length is wrong",
+             0 if it is empty, 253 if only its length is wrong; a final dot does not count",
         ]
     );
     assert_eq!(

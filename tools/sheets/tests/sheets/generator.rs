@@ -4,10 +4,10 @@ use std::collections::{BTreeMap, BTreeSet};
 
 use crate::octets::run;
 use evaluator::book::{Book, Step};
-use evaluator::domain::Domain;
+use evaluator::domain::{without_dot, Domain};
 use evaluator::policy::{Mode, Settings};
 use evaluator::refusal::Refusal;
-use evaluator::sheet::{read, verdict, Sheet};
+use evaluator::sheet::{read, verdict, GivenAnswer, Sheet};
 use evaluator::start::{start, Identifier, Kind, Message, Outcome};
 use evaluator::txt::{reply, Answer, Reply, Status};
 use evaluator::verdict::{Alignment, DmarcResult, Verdict};
@@ -17,16 +17,19 @@ use sheets::tally::tally;
 
 const SHEETS: u64 = 1500;
 
-/// The sheet's answer to a name; none on the sheet is an error.
-fn answer_of<'a>(sheet: &Sheet<'a>, name: &[u8]) -> Answer<'a> {
-    let same = sheet
-        .answers
-        .iter()
-        .find(|given| given.name.eq_ignore_ascii_case(name));
-    same.map_or(Answer::ERROR, |given| given.answer)
+/// What the sheet says of a name, in any spelling.
+fn given_answer<'s, 'a>(sheet: &'s Sheet<'a>, name: &[u8]) -> Option<&'s GivenAnswer<'a>> {
+    let mut answers = sheet.answers.iter();
+    answers.find(|given| without_dot(given.name).eq_ignore_ascii_case(name))
 }
 
-/// Asks and answers in turn, and gives the names and the verdict.
+/// The sheet's answer to a name; none on the sheet is an error.
+fn answer_of<'a>(sheet: &Sheet<'a>, name: &[u8]) -> Answer<'a> {
+    given_answer(sheet, name).map_or(Answer::ERROR, |given| given.answer)
+}
+
+/// Asks and answers in turn, with names as the sheet spells them, and gives the
+/// names and the verdict.
 fn in_turn(octets: &[u8]) -> Result<(Vec<Vec<u8>>, Verdict), Refusal> {
     let sheet = read(octets)?;
     let mut book = Book::default();
@@ -39,7 +42,9 @@ fn in_turn(octets: &[u8]) -> Result<(Vec<Vec<u8>>, Verdict), Refusal> {
             Step::Ask(asked) => {
                 assert!(book.result().is_err(), "no verdict before the last answer");
                 let answer = answer_of(&sheet, &asked.name);
-                book.answer(&asked.name, answer, &mut scratch)?;
+                let given = given_answer(&sheet, &asked.name);
+                let name = given.map_or(asked.name.as_slice(), |given| given.name);
+                book.answer(name, answer, &mut scratch)?;
                 names.push(asked.name);
             }
         }

@@ -14,6 +14,7 @@ mod coverage;
 mod describing;
 mod examples;
 mod explaining;
+mod final_dots;
 mod generator;
 mod marked;
 mod messages;

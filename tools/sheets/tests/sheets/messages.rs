@@ -1,5 +1,5 @@
 //! The sheets that a program runs one after the other: outputs of the broken
-//! and odd ones written by hand from readings 101 to 113 and 126.
+//! and odd ones written by hand from readings 101 to 113, 126 and 134 to 136.
 
 use crate::octets::{printed, run};
 use crate::stored::{bodies, check_stored};
@@ -151,7 +151,85 @@ const ODD: &[(&str, &[&str], &str)] = &[
         &["a.example.com", "example.com", "com"],
         "none none none",
     ),
+    (
+        "134: a final dot in every place",
+        &["example.com", "com", "mail.example.com"],
+        "pass reject none",
+    ),
+    ("135: a lone dot as author", &[], "refused 1 at 0"),
+    ("135: two dots as author", &[], "refused 1 at 0"),
+    ("135: an author with two final dots", &[], "refused 1 at 2"),
+    (
+        "135: an author with a bad label and a final dot",
+        &[],
+        "refused 1 at 3",
+    ),
+    (
+        "135: an author of 253 octets and a final dot",
+        &[LONG_PARENT],
+        "temperror unknown defer",
+    ),
+    (
+        "135: an author of 254 octets and a final dot",
+        &[],
+        "refused 1 at 253",
+    ),
+    (
+        "135: an author of 253 octets and two final dots",
+        &[],
+        "refused 1 at 254",
+    ),
+    ("135: a lone dot as identifier", &[], "refused 2 at 1"),
+    (
+        "135: an identifier with two final dots",
+        &[],
+        "refused 2 at 2",
+    ),
+    ("135: a lone dot as a name", &[], "refused 8 at 18"),
+    ("135: a name with two final dots", &[], "refused 8 at 18"),
+    (
+        "135: a name of 253 octets and a final dot",
+        &["example.com"],
+        "fail reject reject",
+    ),
+    (
+        "135: a name of 254 octets and a final dot",
+        &[],
+        "refused 8 at 18",
+    ),
+    (
+        "136: an answer with a final dot",
+        &["example.com"],
+        "fail reject reject",
+    ),
+    ("136: both spellings answered", &[], "refused 8 at 99"),
+    (
+        "136: both spellings answered, the other way round",
+        &[],
+        "refused 8 at 100",
+    ),
+    (
+        "136: both spellings answered and not asked",
+        &[],
+        "refused 8 at 27",
+    ),
+    (
+        "136: two spellings are one walk",
+        &["example.com", "com", "a.other.test", "other.test", "test"],
+        "fail reject reject",
+    ),
+    (
+        "136: labels are counted without the dot",
+        &["a.b.c.d.e.f.g.h.test"],
+        "temperror unknown defer",
+    ),
 ];
+
+/// Two labels of 63 octets and one of 61: the last labels of a domain of 253
+/// octets, which is not asked itself.
+const LONG_PARENT: &str = "xxxxxxxxxxxxxxxxxxxxxxxxxxxxxxxxxxxxxxxxxxxxxxxxxxxxxxxxxxxxxxx.\
+     xxxxxxxxxxxxxxxxxxxxxxxxxxxxxxxxxxxxxxxxxxxxxxxxxxxxxxxxxxxxxxx.\
+     yyyyyyyyyyyyyyyyyyyyyyyyyyyyyyyyyyyyyyyyyyyyyyyyyyyyyyyyyyyyy";
 
 #[test]
 fn the_odd_sheets_give_what_the_readings_say() {

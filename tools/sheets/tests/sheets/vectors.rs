@@ -236,11 +236,19 @@ fn answers() {
 
 /// Document 01's example with this begin, id and output size.
 fn example(begin: u64, named: u8, id: &[u8], size: u16) -> Vec<u8> {
-    let mut body = b"\x0cgate.example\x0bexample.com".to_vec();
+    name_case([b"gate.example", b"example.com"], begin, named, id, size)
+}
+
+/// Receiver and policy domain, then as in the example.
+fn name_case(domains: [&[u8]; 2], begin: u64, named: u8, id: &[u8], size: u16) -> Vec<u8> {
+    let mut body = Vec::new();
+    for domain in domains {
+        body.push(domain.len() as u8);
+        body.extend(domain);
+    }
     body.extend(begin.to_be_bytes());
     body.extend(1_700_086_399_u64.to_be_bytes());
-    body.push(named);
-    body.push(id.len() as u8);
+    body.extend([named, id.len() as u8]);
     body.extend(id);
     body.extend(size.to_be_bytes());
     body
@@ -269,6 +277,30 @@ fn file_names() {
     ];
     for (body, line) in table {
         check(&vectors, b'F', &body, &format!("file {line}"));
+    }
+}
+
+/// Readings 134 and 135.
+#[test]
+fn file_names_with_final_dots() {
+    let vectors = vectors();
+    let line_of = |receiver: &[u8], policy_domain: &[u8]| {
+        let body = name_case([receiver, policy_domain], 1_700_000_000, 1, b"r7", 700);
+        let mut cases = vectors.iter();
+        let found = cases.find(|(kind, own, _)| *kind == b'F' && *own == body);
+        found.map(|(_, _, line)| line.clone()).expect("a case")
+    };
+    let expected = line_of(b"gate.example", b"example.com");
+    assert!(expected.ends_with(":gate.example!example.com!1700000000!1700086399!r7.xml"));
+    assert_eq!(line_of(b"gate.example.", b"example.com"), expected);
+    assert_eq!(line_of(b"gate.example", b"example.com."), expected);
+    assert_eq!(line_of(b"GATE.example.", b"Example.com."), expected);
+    // An untouched memory of 700 octets has the sum 255 (1 + 2 + ... + 700), less a
+    // multiple of 65,521.
+    let refused = format!("file refused 11 at 0 out=0:{}:", 255 * 350 * 701 % 65_521);
+    for bad in [".", "..", "a..", "a.b..", ".a."] {
+        assert_eq!(line_of(bad.as_bytes(), b"example.com"), refused, "{bad}");
+        assert_eq!(line_of(b"gate.example", bad.as_bytes()), refused, "{bad}");
     }
 }
 

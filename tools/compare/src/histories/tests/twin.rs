@@ -3,7 +3,7 @@
 use crate::histories::code::Code;
 use crate::proved::rows::{Changed, DayList, Entry, Finding, Row, Seen};
 use crate::wrongs::wrongs;
-use evaluator::domain::fault;
+use evaluator::domain::{fault, without_dot};
 use records::proved::Refusal;
 
 wrongs! {
@@ -39,7 +39,11 @@ wrongs! {
     BadDomainClears
     BadDomainNames
     BadDomainAtItsFault
-    FinalDot
+    FinalDotRefused
+    FinalDotKept
+    FinalDotIsAnotherDomain
+    TwoFinalDotsCleared
+    TwoFinalDotsEntered
 }
 
 use Wrong::*;
@@ -98,9 +102,13 @@ impl Twin {
     }
 
     fn cleared(&self, list: DayList, domain: &[u8], rows: &mut [Row]) -> (DayList, u8, usize) {
-        let dropped = domain.strip_suffix(b".").filter(|_| self.is(FinalDot));
-        let domain = dropped.unwrap_or(domain);
-        let bad = fault(domain);
+        let given = domain;
+        let domain = match self.0 {
+            TwoFinalDotsCleared => without_dot(without_dot(domain)),
+            _ => without_dot(domain),
+        };
+        let refused = self.is(FinalDotRefused) && domain != given || domain.ends_with(b".");
+        let bad = fault(domain).or(refused.then_some(domain.len()));
         if bad.is_none() || self.is(BadDomainClears) {
             let own = 256 + usize::from(self.is(OneRowMoreCleared));
             for row in rows.iter_mut().take(own) {
@@ -110,9 +118,10 @@ impl Twin {
                 }
             }
         }
-        let lower = match self.is(CaseKept) {
-            true => domain.to_vec(),
-            false => domain.to_ascii_lowercase(),
+        let lower = match self.0 {
+            CaseKept => domain.to_vec(),
+            FinalDotKept => given.to_ascii_lowercase(),
+            _ => domain.to_ascii_lowercase(),
         };
         match bad {
             Some(_) if self.is(BadDomainNames) => (named(list, &lower), 11, 0),
@@ -152,6 +161,11 @@ impl Twin {
     fn serves(&self, list: &DayList, domain: &[u8]) -> bool {
         let own = &list.domain[..list.length];
         let cleared = list.cleared || self.is(NeverClearedServes);
+        let domain = match self.0 {
+            FinalDotIsAnotherDomain => domain,
+            TwoFinalDotsEntered => without_dot(without_dot(domain)),
+            _ => without_dot(domain),
+        };
         let same = match self.0 {
             CaseMatters => own == domain,
             OneBitNeverMatters => {

@@ -4,6 +4,7 @@ use crate::generate::draft::{walk_names, Draft, DraftAnswer, DraftIdentifier};
 use crate::generate::{domains, texts};
 use crate::random::Random;
 use crate::written::Record;
+use evaluator::domain::without_dot;
 use evaluator::txt::MOST_ANSWER_OCTETS;
 
 /// One that stands here twice comes twice as often.
@@ -31,6 +32,8 @@ pub const DRAFT_FAULTS: &[fn(&mut Random, &mut Draft)] = &[
     second_answer,
     bad_answer_name,
     bad_answer_name,
+    final_dots,
+    final_dots,
 ];
 
 fn bad_author(random: &mut Random, draft: &mut Draft) {
@@ -121,7 +124,8 @@ fn spoil_answer(random: &mut Random, draft: &mut Draft, bytes: Vec<u8>) {
     };
     let name = name.unwrap_or_else(|| b"_dmarc.never-asked.example".to_vec());
     let status = 0;
-    let same = |answer: &&mut DraftAnswer| answer.name.eq_ignore_ascii_case(&name);
+    let plain = without_dot(&name);
+    let same = |answer: &&mut DraftAnswer| without_dot(&answer.name).eq_ignore_ascii_case(plain);
     match draft.answers.iter_mut().find(same) {
         Some(answer) => (answer.status, answer.bytes) = (status, bytes),
         None => draft.answers.push(DraftAnswer {
@@ -205,20 +209,43 @@ fn filled(head: Vec<u8>, octets: usize, more: usize) -> Vec<u8> {
     bytes
 }
 
-/// A name answered twice, in either case, asked or not.
+/// A name answered twice, in either case, with a final dot or without, asked or
+/// not.
 fn second_answer(random: &mut Random, draft: &mut Draft) {
     let at = random.below(draft.answers.len());
     let Some(first) = draft.answers.get(at).cloned() else {
         return;
     };
     let mut second = first;
-    second.name = domains::recased(random, second.name, 60);
+    let plain = without_dot(&second.name).to_vec();
+    second.name = domains::recased(random, plain, 60);
+    second.name = domains::dotted(random, second.name, 40);
     if random.percent(60) {
         second.status = random.pick(&[1, 2]);
         second.bytes = Vec::new();
     }
     let to = random.between(0, draft.answers.len());
     draft.answers.insert(to, second);
+}
+
+/// One final dot more, which is no fault if it is the first, or two, or three.
+fn final_dots(random: &mut Random, draft: &mut Draft) {
+    let (identifiers, answers) = (draft.identifiers.len(), draft.answers.len());
+    let text = match random.below(3) {
+        0 => Some(&mut draft.author),
+        1 => draft
+            .identifiers
+            .get_mut(random.below(identifiers))
+            .map(|identifier| &mut identifier.domain),
+        _ => draft
+            .answers
+            .get_mut(random.below(answers))
+            .map(|answer| &mut answer.name),
+    };
+    let dots = random.pick(&[".", "..", "..."]);
+    if let Some(text) = text.filter(|text| text.len() + dots.len() <= 255) {
+        text.extend(dots.bytes());
+    }
 }
 
 fn bad_answer_name(random: &mut Random, draft: &mut Draft) {

@@ -8,7 +8,7 @@ use super::packing::packed;
 use crate::description;
 use crate::examples::{Example, MARKED};
 use crate::generate;
-use evaluator::domain::Domain;
+use evaluator::domain::{without_dot, Domain};
 use evaluator::sheet;
 use evaluator::txt::Status;
 
@@ -32,7 +32,8 @@ impl Plan {
         let mut answers = HashMap::new();
         for given in &sheet.answers {
             let said = (given.answer.status, given.answer.bytes.to_vec());
-            answers.insert(given.name.to_ascii_lowercase(), said);
+            let name = without_dot(given.name).to_ascii_lowercase();
+            answers.insert(name, said);
         }
         let message = &sheet.message;
         Some(Plan {
@@ -201,6 +202,19 @@ const DESCRIBED: &[&str] = &[
      answer _dmarc.mail.example.com "v=DMARC1; p=none; psd=n; PSD=n"
      answer _dmarc.example.com "v=DMARC1; p=none; fo=1; rua=a:b; Fo=1"
      answer _dmarc.com "v=DMARC1; p=reject; psd=u""#,
+    // Final dots: one name in two spellings, one walk for two domains, a domain of
+    // 253 octets.
+    r#"author Example.com. exists supported
+     spf pass example.com
+     dkim pass mail.example.com.
+     dkim pass Mail.Example.com
+     answer _dmarc.example.com. "v=DMARC1; p=reject; aspf=s"
+     answer _dmarc.mail.example.com. "v=DMARC1; p=none; psd=n""#,
+    r#"author news.example.com exists supported
+     spf pass mail.example.org.
+     dkim pass MAIL.example.org
+     answer _dmarc.example.com "v=DMARC1; p=reject; sp=quarantine"
+     answer _dmarc.org. error"#,
     // Labels of odd octets.
     r#"author -.9._s.x-1 exists supported
      dkim pass _.-.9._S.X-1
@@ -233,6 +247,11 @@ fn long_domains() -> Vec<String> {
     let record = record_line("example.com", "p=reject");
     texts.push(format!(
         "author example.com exists supported\ndkim pass {own}\ndkim pass {own}\n{record}"
+    ));
+    // A final dot after as many octets as a domain may have.
+    let record = record_line("example.com", "p=reject");
+    texts.push(format!(
+        "author {own}. exists supported\ndkim pass {longest}.\ndkim pass {own}\n{record}"
     ));
     // As many labels as there can be, without a record.
     let labels = vec!["a"; 127].join(".");

@@ -34,8 +34,13 @@ fn refused_authors() -> Vec<StartCall> {
         "",
         ".",
         ".com",
-        "com.",
+        "..",
+        "...",
+        "com..",
+        "com...",
+        ".com.",
         "a..b",
+        "a b.",
         "a b",
         "ab.c@d.e",
         "a.b.c.\0",
@@ -47,7 +52,10 @@ fn refused_authors() -> Vec<StartCall> {
     authors.push(b"a.\xff".to_vec());
     authors.push(long_label.clone().into_bytes());
     authors.push(format!("ok.{long_label}.com").into_bytes());
+    authors.push(format!("{long_label}.").into_bytes());
+    authors.push(longer("com..", 255).into_bytes());
     authors.push(longer("com", 254).into_bytes());
+    authors.push(longer("com.", 255).into_bytes());
     authors.push(longer("com", 255).into_bytes());
     authors.push(longer("c m", 255).into_bytes());
     let plain = |author: Vec<u8>| StartCall {
@@ -84,7 +92,9 @@ fn refused_identifiers() -> Vec<Vec<u8>> {
     let sixteen = [spf.clone(), good.repeat(15)].concat();
     let foreign = longer("com", 252).replace(".com", ".c,m");
     let too_long = longer("com", 254);
-    let pairs: [(&[u8], &[u8]); 37] = [
+    let too_long_dotted = longer("com.", 255);
+    let dotted = item(1, 1, b"example.com.");
+    let pairs: [(&[u8], &[u8]); 41] = [
         (b"", &item(2, 1, b"example.com")),
         (b"", &item(1, 3, b"example.com")),
         (&[&good[..], &spf].concat(), &item(255, 255, b"")),
@@ -103,7 +113,11 @@ fn refused_identifiers() -> Vec<Vec<u8>> {
         (b"", &bad),
         (&[&good[..], &bad].concat(), &item(9, 9, b"")),
         (b"", &item(0, 0, b"")),
-        (b"", &item(1, 2, b"a.b.")),
+        (b"", &item(1, 2, b"a.b..")),
+        (b"", &item(1, 1, b".")),
+        (&good, &item(0, 1, b"..")),
+        (&dotted, &item(1, 0, b"a...")),
+        (&dotted, &item(1, 0, too_long_dotted.as_bytes())),
         (&good, &item(1, 1, foreign.as_bytes())),
         (b"ID\x01\0\x01\x01", too_long.as_bytes()),
         // The mark is not looked at.

@@ -3,6 +3,7 @@
 
 use super::accepted::Plan;
 use super::call::{AnswerCall, Call, StartCall};
+use crate::generate::domains::dotted;
 use crate::random::Random;
 use evaluator::book::Book;
 use evaluator::txt::{self, Status};
@@ -217,7 +218,7 @@ impl Scrambler {
         };
         let mut name = asked.to_vec();
         match self.random.below(7) {
-            0 => name.push(b'.'),
+            0 => name.extend(b".."),
             1 => name = name.split_off(7),
             2 => name.clear(),
             3 => {
@@ -260,8 +261,8 @@ impl Scrambler {
         }
     }
 
-    /// The answer for the name now asked, in either case. Bytes that come with
-    /// none or error are not read.
+    /// The answer for the name now asked, in either case, at times with a final
+    /// dot. Bytes that come with none or error are not read.
     fn answer(&mut self, plan: &Plan, name: &[u8]) {
         let (status, mut bytes) = plan.answer(name);
         if status != Status::Records && self.random.percent(30) {
@@ -271,6 +272,7 @@ impl Scrambler {
             0 => name.to_ascii_uppercase(),
             _ => name.to_vec(),
         };
+        let given = dotted(&mut self.random, given, 20);
         let scratch = self.random.pick(&LONG);
         self.push_answer(&given, status, &bytes, scratch);
         self.last = name.to_vec();

@@ -80,6 +80,7 @@ pub fn sheets() -> Vec<(&'static str, Vec<u8>)> {
         answers(),
         unanswered(),
         repeated_tags(),
+        final_dots(),
     ];
     let sheets = tables.into_iter().flatten();
     sheets.map(|(name, sheet)| (name, sheet.octets)).collect()
@@ -335,6 +336,96 @@ fn repeated_tags() -> Table {
                 .none(b"_dmarc.a.example.com")
                 .text(own, b"v=DMARC1; p=none; psd=y; psd=y")
                 .none(b"_dmarc.com"),
+        ),
+    ]
+}
+
+/// Readings 134 to 136.
+fn final_dots() -> Table {
+    let own = || author(b"example.com.");
+    let dotted: &[u8] = b"_dmarc.example.com.";
+    let plain: &[u8] = b"_dmarc.example.com";
+    let after = |mut name: Vec<u8>, dots: &[u8]| {
+        name.extend(dots);
+        name
+    };
+    vec![
+        (
+            "134: a final dot in every place",
+            own()
+                .id(0, 1, b"mail.example.com.")
+                .dkim(1, b"mail.Example.com")
+                .text(b"_DMARC.example.com.", E)
+                .none(b"_dmarc.com.")
+                .none(b"_dmarc.mail.example.com."),
+        ),
+        ("135: a lone dot as author", author(b".")),
+        ("135: two dots as author", author(b"..")),
+        ("135: an author with two final dots", author(b"a..")),
+        (
+            "135: an author with a bad label and a final dot",
+            author(b"ok.a b.com."),
+        ),
+        (
+            "135: an author of 253 octets and a final dot",
+            author(&after(long_name(61), b".")).text(b"_dmarc.x", E),
+        ),
+        (
+            "135: an author of 254 octets and a final dot",
+            author(&after(long_name(62), b".")),
+        ),
+        (
+            "135: an author of 253 octets and two final dots",
+            author(&after(long_name(61), b"..")),
+        ),
+        (
+            "135: a lone dot as identifier",
+            own().dkim(1, b"a.").id(1, 0, b"."),
+        ),
+        (
+            "135: an identifier with two final dots",
+            own().dkim(2, b"a.").id(0, 2, b"a.b.."),
+        ),
+        ("135: a lone dot as a name", own().none(b".")),
+        ("135: a name with two final dots", own().none(b"a..")),
+        (
+            "135: a name of 253 octets and a final dot",
+            own().none(&after(long_name(61), b".")).text(plain, E),
+        ),
+        (
+            "135: a name of 254 octets and a final dot",
+            own().none(&after(long_name(62), b".")),
+        ),
+        (
+            "136: an answer with a final dot",
+            author(b"example.com").text(dotted, E),
+        ),
+        (
+            "136: both spellings answered",
+            own().text(plain, E).text(dotted, E),
+        ),
+        (
+            "136: both spellings answered, the other way round",
+            own().text(dotted, E).none(b"_DMARC.Example.com"),
+        ),
+        (
+            "136: both spellings answered and not asked",
+            own().none(b"A.b").none(b"a.B."),
+        ),
+        (
+            "136: two spellings are one walk",
+            own()
+                .dkim(1, b"a.other.test.")
+                .dkim(1, b"A.other.test")
+                .text(dotted, b"v=DMARC1; p=reject")
+                .none(b"_dmarc.com")
+                .none(b"_dmarc.a.other.test.")
+                .none(b"_dmarc.other.test")
+                .none(b"_dmarc.test."),
+        ),
+        (
+            "136: labels are counted without the dot",
+            author(b"a.b.c.d.e.f.g.h.test."),
         ),
     ]
 }

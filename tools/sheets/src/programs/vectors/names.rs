@@ -1,4 +1,4 @@
-//! Report file names: readings 94 to 97, and the domain rule.
+//! Report file names: readings 94 to 97 and 134 to 135, and the domain rule.
 
 use super::case::NameCase;
 use super::octets::{padded, EDGES};
@@ -13,6 +13,7 @@ pub fn names() -> Vec<NameCase> {
     let mut names = plain();
     names.extend(powers_of_ten());
     names.extend(edges());
+    names.extend(final_dots());
     names
 }
 
@@ -165,8 +166,6 @@ fn plain() -> Vec<NameCase> {
         sample().policy(b"."),
         sample().receiver(b".gate"),
         sample().policy(b".com"),
-        sample().receiver(b"gate."),
-        sample().policy(b"example.com."),
         sample().receiver(b"a..b"),
         sample().policy(b"a..b"),
         sample().receiver(b"a b"),
@@ -222,6 +221,40 @@ fn edges() -> Vec<NameCase> {
         names.push(sample().receiver(&[b'g', *octet, b't']));
         names.push(sample().policy(&[b'e', b'.', *octet]));
         names.push(sample().id(&[b'r', *octet]));
+    }
+    names
+}
+
+/// 134, 135: one final dot is dropped from either domain, and no more.
+fn final_dots() -> Vec<NameCase> {
+    let dotted = |octets: usize| [domain(octets).as_slice(), b"."].concat();
+    let both = || sample().receiver(b"GATE.example.").policy(b"Example.com.");
+    let mut names = vec![
+        sample().receiver(b"gate.example."),
+        sample().policy(b"example.com."),
+        both(),
+        both().size(53),
+        both().size(52),
+        both().named(0).size(50),
+        both().named(0).size(49),
+        both().id(b"r."),
+        both().times(6, 5),
+        sample().receiver(b"a.").policy(b"b."),
+    ];
+    let texts: [&[u8]; 9] = [
+        b".", b"..", b"...", b"a..", b"a.b..", b".a.", b"a..b.", b"a b.", b"a. ",
+    ];
+    for text in texts {
+        names.push(sample().receiver(text));
+        names.push(sample().policy(text));
+    }
+    for octets in [252, 253, 254] {
+        names.push(sample().receiver(&dotted(octets)));
+        names.push(sample().policy(&dotted(octets)));
+        names.push(sample().receiver(&dotted(octets)).policy(&dotted(octets)));
+    }
+    for octets in [63, 64] {
+        names.push(sample().policy(&padded(b"", b'x', b".", octets + 1)));
     }
     names
 }

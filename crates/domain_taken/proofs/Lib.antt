@@ -1,0 +1,2 @@
+-- Laws of a final dot, as the code looks for it.
+pub mod LastLaws
