@@ -8,15 +8,8 @@ ghost use Rattle.alignment_settle.specs.code.Tallies.{settled-of};
 use alignment::Alignment;
 use alignment::Kind;
 use alignment::Outcome;
-use domain::Octet;
 use policy::Mode;
 use policy::Settings;
-
-// An organizational domain: unknown after an error, or where it begins.
-pub enum Organizational {
-    Unknown,
-    From(Octet),
-}
 
 // The alignments of identifiers as digits to base 4, the first one lowest, and what the result is made from.
 pub struct Tally {
@@ -26,22 +19,10 @@ pub struct Tally {
     pub temporary: bool,
 }
 
-// Alignments over kept answers: at a target without an answer, by its walk and place, or all of them.
-pub enum Tallied {
-    Missing { walk: usize, place: Octet },
-    Done(Tally),
-}
-
 // What is settled of an identifier without a walk.
 pub enum Settled {
     Known(Alignment),
     Open,
-}
-
-// The alignment of one identifier: at a target without an answer, by its place, or known.
-pub enum Aligned {
-    Missing(Octet),
-    Known(Alignment),
 }
 
 // The mode in which an identifier of a kind is compared.
@@ -83,7 +64,7 @@ fn settle(o: Outcome, equal: bool, m: Mode) -> Settled
 // What is settled of a walk's identifier.
 pub fn settle_at<'a>(
     domains: &'a [u8],
-    numbers: &'a [usize],
+    numbers: &'a [u16],
     author: &'a [u8],
     s: Settings,
     walk: usize,
@@ -101,7 +82,7 @@ pub fn settle_at<'a>(
 // Whether a walk's identifier must be walked.
 fn must_walk<'a>(
     domains: &'a [u8],
-    numbers: &'a [usize],
+    numbers: &'a [u16],
     author: &'a [u8],
     s: Settings,
     walk: usize,
@@ -117,7 +98,7 @@ fn must_walk<'a>(
 // Whether any of so many identifiers must be walked.
 pub fn any_must_walk<'a>(
     domains: &'a [u8],
-    numbers: &'a [usize],
+    numbers: &'a [u16],
     author: &'a [u8],
     s: Settings,
     count: usize,

@@ -3,7 +3,7 @@ use mathlib.Core.Path.{_≡_, refl, ap}
 use mathlib.Core.List.{List, _∷_}
 use Prim.Native.Nat.{ℕ, zero, suc, _+_, _*_, _-_, _≤_, _<_, min}
 use native.Mathlib.Omega.{arith}
-use lib.ListN.{length, getD, List·getD-eq-default}
+use lib.ListN.{length, drop, getD, length-take, List·getD-eq-default}
 use borrow.Author.Tests.{le-leb, lt-leb}
 use Rattle.octets.specs.Octets.{Octets, part-of}
 use Rattle.alignment.specs.declared.Kind.{Kind}
@@ -48,6 +48,10 @@ module _ (domains : Octets) (numbers : List ℕ) (walk : ℕ) where
   slot-part size e =
       let same : 253 * walk + size - 253 * walk ≡ size = omega arith in
       rw (same, e)
+
+  pub slot-size : length (slot domains numbers walk) ≤ 253
+  unfolding slot
+  slot-size = omega (arith, length-take (min (number-at numbers 0 walk) 253) (drop (253 * walk) domains))
 
   pub next-identifier : (more : ℕ) → 0 < more → stored-identifiers domains numbers walk more ≡ identifier-at domains numbers walk ∷ stored-identifiers domains numbers (walk + 1) (more - 1)
   unfolding stored-identifiers

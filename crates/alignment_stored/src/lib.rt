@@ -6,7 +6,7 @@ use alignment::Kind;
 use alignment::Outcome;
 
 // A stored number of a walk, 0 where there is none.
-fn number_at(numbers: &[usize], from: usize, walk: usize) -> usize
+fn number_at(numbers: &[u16], from: usize, walk: usize) -> usize
     requires { ⌜ from ≤ 34 ⌝ }
     ensures { λ r. ⌜ r ≡ number-at (now (numbers .entry)) from walk ⌝ }
 {
@@ -16,11 +16,11 @@ fn number_at(numbers: &[usize], from: usize, walk: usize) -> usize
     if numbers.len() <= from + walk {
         return 0;
     }
-    numbers[from + walk]
+    numbers[from + walk] as usize
 }
 
 // The domain that a walk starts from.
-pub fn slot<'a>(domains: &'a [u8], numbers: &'a [usize], walk: usize) -> &'a [u8]
+pub fn slot<'a>(domains: &'a [u8], numbers: &'a [u16], walk: usize) -> &'a [u8]
     ensures { λ r. ⌜ now r ≡ slot (now (domains .entry)) (now (numbers .entry)) walk ⌝ }
 {
     if 16 < walk {
@@ -31,7 +31,7 @@ pub fn slot<'a>(domains: &'a [u8], numbers: &'a [usize], walk: usize) -> &'a [u8
 }
 
 // The kind of a walk's identifier.
-pub fn kind_at(numbers: &[usize], walk: usize) -> Kind
+pub fn kind_at(numbers: &[u16], walk: usize) -> Kind
     ensures { λ r. ⌜ r ≡ kind-at (now (numbers .entry)) walk ⌝ }
 {
     match number_at(numbers, 17, walk) {
@@ -41,7 +41,7 @@ pub fn kind_at(numbers: &[usize], walk: usize) -> Kind
 }
 
 // The outcome of a walk's identifier.
-pub fn outcome_at(numbers: &[usize], walk: usize) -> Outcome
+pub fn outcome_at(numbers: &[u16], walk: usize) -> Outcome
     ensures { λ r. ⌜ r ≡ outcome-at (now (numbers .entry)) walk ⌝ }
 {
     match number_at(numbers, 34, walk) {

@@ -98,7 +98,7 @@ good-lower (l ∷ ls) e = let (g, rest) = and-true (good-label l) (all good-labe
 
 -- ------------------------------------------------------------------ whole domains
 
-rule-no-fault : (d : Domain) → is-domain d ≡ true → domain-fault d ≡ nothing
+pub rule-no-fault : (d : Domain) → is-domain d ≡ true → domain-fault d ≡ nothing
 unfolding kept-or-not
 rule-no-fault d e = go (domain-fault d) refl
   where

@@ -1,6 +1,6 @@
 -- Laws of the rule's answer.
 use mathlib.Core.Path.{_≡_, refl, ap, sym, _∙_}
-use mathlib.Core.Option.{Option, none as nothing, some as just}
+use mathlib.Core.Option.{none as nothing, some as just}
 use mathlib.Core.Bool.{Bool, true, false}
 use Prim.Native.Nat.{ℕ, _≤_, _<_}
 use lib.ListN.{length}

@@ -1,101 +1,39 @@
--- Laws of the calls: what an evaluation holds after each, and what each gives.
+-- Laws of the calls: what an evaluation keeps after each, and what each gives.
 use mathlib.Core.Path.{_≡_, refl, ap, sym, _∙_}
 use mathlib.Core.List.{List, [], _∷_, _++_}
-use mathlib.Core.Bool.{Bool, true, false, _&&_, and-false, false≢true}
-use mathlib.Core.Option.{Option, none as nothing, some as just}
-use Prim.Native.Nat.{ℕ, zero, suc, _+_, _*_, _-_, _≤_, _<_, min}
+use mathlib.Core.Bool.{true, false}
+use Prim.Native.Nat.{ℕ, zero, suc, _+_, _*_, _-_, _≤_, min}
 use native.Mathlib.Omega.{arith}
 use native.Mathlib.Decide.{decLe}
 use lib.ListN.{length, take, drop, getD, set, length-take}
 use lib.Seq.{take-all, drop-drop}
-use borrow.Author.Tests.{le-leb, lt-leb, lt-ltb, le-ltb}
-use Rattle.octets.specs.Octets.{Octets, same-text, part-of}
-use Rattle.octets.specs.Refusing.{refusal}
+use borrow.Author.Tests.{le-leb, lt-leb}
+use Rattle.octets.specs.Octets.{Octets, part-of}
+use Rattle.octets.specs.Refusing.{ok, not-ok, refusal}
 use Rattle.octets.specs.declared.Refusal.{Refusal}
-use Rattle.octets.specs.declared.Written.{Written}
-use Rattle.octets.specs.Lent.{WritesIf}
-use Rattle.lookup.specs.Lookup.{Name}
-use Rattle.domain.specs.declared.Octet.{Octet}
-use Rattle.domain.specs.Domain.{without-dot, asked-name}
+use Rattle.octets.proofs.ListLaws.{drop-take}
 use Rattle.octets.proofs.PartLaws.{clipped}
-use Rattle.txt.specs.declared.Status.{Status}
-use Rattle.txt.specs.declared.Reply.{Reply}
-use Rattle.txt.specs.declared.Taken.{Taken}
-use Rattle.txt.specs.Answers.{answer-of}
-use Rattle.txt.specs.Taking.{taken, left-after, Takes}
-use Rattle.txt_codes.specs.code.Codes.{reply-code, reply-of}
-use Rattle.walk_look.specs.code.Kept.{kept-answers}
-use Rattle.txt_codes.proofs.CodeLaws.{reply-back}
+use Rattle.domain.specs.declared.Octet.{Octet}
+use Rattle.domain.specs.Domain.{asked-name}
+use Rattle.txt_codes.specs.code.Codes.{reply-of}
+use Rattle.walk_known.specs.code.Kept.{kept-answers}
 use Rattle.alignment_stored.specs.code.Stored.{number-at, slot}
-use Rattle.verdict_apply.specs.declared.Judgement.{Judgement}
-use Rattle.verdict_apply.specs.declared.Judged.{Judged}
-use Rattle.verdict.specs.Verdict.{Verdict}
-use Rattle.verdict_apply.specs.code.Judging.{verdict-in, judged-standing}
+use Rattle.verdict_judgement.specs.declared.Judgement.{Judgement}
+use Rattle.verdict_judgement.specs.declared.Judged.{Judged}
+use Rattle.verdict_judgement.specs.code.Judging.{verdict-in, Fixed, judged-standing}
+use Rattle.verdict_cursor.specs.code.Cursor.{stands}
 use Rattle.evaluation.specs.declared.Evaluation.{Evaluation}
 use Rattle.evaluation.specs.declared.Step.{Step}
 use Rattle.evaluation.specs.declared.Resulting.{Resulting}
-use Rattle.evaluation.specs.declared.Acceptance.{Acceptance}
-use Rattle.book.specs.Book.{next, result, answer, field, given, refused, back-of, field-of}
-use Rattle.octets.proofs.ListLaws.{drop-take}
-use Rattle.evaluation.specs.code.View.{View, view, marked, begin-of-slot, asked-in, view-standing, asking, keeping, is-asked, has-room, view-taken, view-next-by, view-next, view-answer-asked, view-answer, view-result-by, view-result, view-field-by, view-field, view-call, changing, Does, step-back, result-back, acceptance-back}
+use Rattle.book.specs.Book.{next, given}
+use Rattle.evaluation.specs.code.Machine.{keeps-nothing, keeps-opened, next-at, judged-by, judged-at, judged, result-back, machine-call}
+use Rattle.evaluation.specs.code.View.{message-now, replies-now, cursor-now, handed-view, view-by, view, begin-of-slot, Does, step-back, resulting-back, resulting-in, ResultFixed, DoesResult}
 
--- ------------------------------------------------------------------ where nothing was started
+-- ------------------------------------------------------------------ next step
 
-module _ (e : Evaluation) (s : e .started ≡ false) where
-  pub next-not-started : Does e next e (given (step-back e (Step.Refused (refusal 7 0))) [])
-  unfolding view-call view-next view step-back
-  next-not-started = record { leaves = rw s; gives = rw s; stands = λ x. refl; same-domains = (refl, refl) }
-
-  pub result-not-started : Does e result e (given (result-back e (Resulting.Refused (refusal 7 0))) [])
-  unfolding view-call view-result view result-back
-  result-not-started = record { leaves = refl; gives = rw s; stands = λ x. refl; same-domains = (refl, refl) }
-
-  pub field-not-started : (output : Octets) → Does e (field output) e (given (back-of (Written.Refused (refusal 7 0))) output)
-  unfolding view-call view-field view back-of
-  field-not-started output = record { leaves = refl; gives = rw s; stands = λ x. refl; same-domains = (refl, refl) }
-
--- ------------------------------------------------------------------ by where the evaluation stands
-
-module _ (e : Evaluation) (s : e .started ≡ true) where
-  next-standing : view-call (view e) next ≡ view-next-by (view e) (view-standing (view e))
-  unfolding view-call view-next view
-  next-standing = rw s
-
-  result-standing : view-call (view e) result ≡ (view e, view-result-by (view e) (view-standing (view e)))
-  unfolding view-call view-result view
-  result-standing = rw s
-
-  field-standing : (output : Octets) → view-call (view e) (field output) ≡ (view e, view-field-by (view e) (view-standing (view e)) output)
-  unfolding view-call view-field view
-  field-standing output = rw s
-
-  -- a name lacks an answer
-  module _ (walk : ℕ) (place : Octet) (h : judged-standing (e .domains) (e .numbers) (e .terms) (Judged.Missing walk place) ≡ view-standing (view e)) where
-    pub next-missing : (after : Evaluation) → view after ≡ asking (view e) (marked e walk place) → (after .domains ≡ e .domains) × (after .numbers ≡ e .numbers) → Does e next after (given (step-back e (Step.Ask walk place)) [])
-    unfolding judged-standing view-next-by step-back marked changing
-    next-missing after f d = record { leaves = rw (next-standing, ← h) f; gives = rw (next-standing, ← h); stands = λ x. absurd (false≢true (sym x)); same-domains = d }
-
-    pub result-missing : Does e result e (given (result-back e (Resulting.Refused (refusal 7 0))) [])
-    unfolding judged-standing view-result-by result-back
-    result-missing = record { leaves = rw result-standing; gives = rw (result-standing, ← h); stands = λ x. refl; same-domains = (refl, refl) }
-
-    pub field-missing : (output : Octets) → Does e (field output) e (given (back-of (Written.Refused (refusal 7 0))) output)
-    unfolding judged-standing view-field-by back-of
-    field-missing output = record { leaves = rw (field-standing output); gives = rw (field-standing output, ← h); stands = λ x. refl; same-domains = (refl, refl) }
-
-  -- the verdict
-  module _ (j : Judgement) (h : judged-standing (e .domains) (e .numbers) (e .terms) (Judged.Done j) ≡ view-standing (view e)) where
-    pub next-verdict : (n : ℕ) → n ≡ length (view e .replies) → Does e next e (given (step-back e (Step.Verdict (record { judgement = j; count = n }))) [])
-    unfolding judged-standing view-next-by step-back view
-    next-verdict n f = record { leaves = rw (next-standing, ← h); gives = rw (next-standing, ← h, f); stands = λ x. refl; same-domains = (refl, refl) }
-
-    pub result-verdict : (n : ℕ) → n ≡ length (view e .replies) → Does e result e (given (result-back e (Resulting.Verdict (record { judgement = j; count = n }))) [])
-    unfolding judged-standing view-result-by result-back view
-    result-verdict n f = record { leaves = rw result-standing; gives = rw (result-standing, ← h, f); stands = λ x. refl; same-domains = (refl, refl) }
-
-    pub field-verdict : (output left : Octets) (w : Written) → WritesIf (field-of (view e .message) (verdict-in (view e .message) j)) output w left → Does e (field output) e (given (back-of w) left)
-    unfolding judged-standing view-field-by view
-    field-verdict output left w f = record { leaves = rw (field-standing output); gives = rw (field-standing output, ← h, f .answers, f .leaves); stands = λ x. refl; same-domains = (refl, refl) }
+pub next-not-started : (e : Evaluation) → e .started ≡ false → Does e next e (given (step-back e (Step.Refused (refusal 7 0))) [])
+unfolding machine-call next-at view view-by keeps-nothing step-back
+next-not-started e s = record { leaves = rw s; gives = rw s; stands = λ x. refl; same-domains = (refl, refl) }
 
 -- ------------------------------------------------------------------ kept answers
 
@@ -128,7 +66,50 @@ module _ (domains : Octets) where
       let g : suc n + 1 ≡ suc (n + 1) = omega arith in
       rw (f₁, f₂, f, g) (ap (λ l. (asked-name (part-of domains a b), reply-of c) ∷ l) (kept-more n (3 * n) kept x y z refl (omega arith)))
 
--- ------------------------------------------------------------------ the name now asked, among the stored domains
+-- how many an evaluation has room for
+pub replies-length : (e : Evaluation) → length (e .kept) ≡ 408 → length (replies-now e) ≡ min (e .count) 136
+unfolding replies-now
+replies-length e full = kept-length (e .domains) (e .count) 136 (e .kept) full
+
+-- ------------------------------------------------------------------ result
+
+module _ (e : Evaluation) where
+  pub result-refused : (f : Refusal) → judged (view e) ≡ not-ok f → DoesResult e (Resulting.Refused f)
+  unfolding machine-call result-back resulting-back resulting-in ResultFixed
+  result-refused f h = record { does = record { leaves = refl; gives = rw h; stands = λ x. refl; same-domains = (refl, refl) }; says = sym h; fixed = tt }
+
+  pub result-not-started : e .started ≡ false → DoesResult e (Resulting.Refused (refusal 7 0))
+  unfolding view view-by keeps-nothing judged judged-at
+  result-not-started s = result-refused (refusal 7 0) (rw s)
+
+  module _ (s : e .started ≡ true) where
+    pub result-not-handed : e .handed ≡ false → DoesResult e (Resulting.Refused (refusal 7 0))
+    unfolding view view-by keeps-opened judged judged-at
+    result-not-handed h = result-refused (refusal 7 0) (rw (s, h))
+
+    module _ (h : e .handed ≡ true) where
+      judged-standing-now : judged (view e) ≡ judged-by (message-now e) (stands (message-now e) (cursor-now e))
+      unfolding view view-by handed-view judged judged-at
+      judged-standing-now = rw (s, h)
+
+      replies-kept : view e .replies ≡ replies-now e
+      unfolding view view-by handed-view
+      replies-kept = rw (s, h)
+
+      pub result-missing : (walk : ℕ) (place : Octet) → judged-standing (e .domains) (e .numbers) (e .terms) (Judged.Missing walk place) ≡ stands (message-now e) (cursor-now e)
+          → DoesResult e (Resulting.Refused (refusal 7 0))
+      unfolding judged-standing judged-by
+      result-missing walk place u = result-refused (refusal 7 0) (rw (judged-standing-now, ← u))
+
+      pub result-verdict : (j : Judgement) → judged-standing (e .domains) (e .numbers) (e .terms) (Judged.Done j) ≡ stands (message-now e) (cursor-now e) → Fixed (message-now e) j
+          → length (e .kept) ≡ 408 → (n : ℕ) → n ≡ min (e .count) 136 → DoesResult e (Resulting.Verdict (record { judgement = j; count = n }))
+      unfolding machine-call judged-standing message-now judged-by result-back resulting-back resulting-in ResultFixed
+      result-verdict j u x full n f =
+          let done : judged (view e) ≡ ok (message-now e, verdict-in (message-now e) j) = rw (judged-standing-now, ← u) in
+          let count : n ≡ length (view e .replies) = f ∙ sym (replies-length e full) ∙ ap length (sym replies-kept) in
+          record { does = record { leaves = refl; gives = rw (done, count); stands = λ x. refl; same-domains = (refl, refl) }; says = sym done; fixed = x }
+
+-- ------------------------------------------------------------------ the target that a walk and a place mark, among the stored domains
 
 pub begin-small : (walk : ℕ) → begin-of-slot walk ≤ 4048
 unfolding begin-of-slot
@@ -167,87 +148,3 @@ module _ (domains : Octets) (numbers : List ℕ) (walk : ℕ) where
       let kept : begin + size - (begin + from) ≡ size - from = omega arith in
       let clip : drop from (slot domains numbers walk) ≡ drop place (slot domains numbers walk) = rw (f, s) (clipped (slot domains numbers walk) place) in
       rw (kept, ← drop-drop from begin domains, ← drop-take from size (drop begin domains), b, s, ← slot-stored) clip
-
-module _ (e : Evaluation) (full : length (e .kept) ≡ 408) where
-  pub replies-length : length (view e .replies) ≡ min (e .count) 136
-  unfolding view
-  replies-length = kept-length (e .domains) (e .count) 136 (e .kept) full
-
-  -- what is kept of an answer
-  pub reply-kept : e .count < 136 → (r : Reply) (begin size from at code : ℕ) → begin ≡ begin-of-slot (e .walk) → size ≡ length (slot (e .domains) (e .numbers) (e .walk)) → from ≡ min (e .place .0) size → at ≡ 3 * e .count → code ≡ reply-code r
-      → kept-answers (e .domains) (e .count + 1) (set (set (set (e .kept) at (begin + from)) (at + 1) (begin + size)) (at + 2) code) ≡ keeping (view e) (marked e (e .walk) (e .place)) r .replies
-  unfolding view keeping marked
-  reply-kept h r begin size from at code b s f a c =
-      kept-more (e .domains) (e .count) at (e .kept) (begin + from) (begin + size) code a (omega arith)
-      ∙ rw (mark-stored (e .domains) (e .numbers) (e .walk) (e .place .0) begin size from b s f, c, reply-back r)
-
--- ------------------------------------------------------------------ an answer
-
-module _ (v : View) (name : Octets) (status : Status) (bytes scratch : Octets) where
-  answer-not-asked : is-asked v name ≡ false → view-answer v name status bytes scratch ≡ (v, given (refused (refusal 5 0)) scratch)
-  unfolding is-asked view-answer view-answer-asked
-  answer-not-asked = go (v .asked)
-    where
-      go : (o : Option Name) → elim o as (λ _. Bool) [ nothing ↦ false | just n ↦ same-text (without-dot name) n ] ≡ false
-          → view-answer-asked v name (answer-of status bytes) scratch o ≡ (v, given (refused (refusal 5 0)) scratch)
-      go nothing h = refl
-      go (just n) h = rw h
-
-  answer-no-room : has-room v ≡ false → view-answer v name status bytes scratch ≡ (v, given (refused (refusal 5 0)) scratch)
-  unfolding view-answer view-answer-asked
-  answer-no-room h = go (v .asked)
-    where
-      go : (o : Option Name) → view-answer-asked v name (answer-of status bytes) scratch o ≡ (v, given (refused (refusal 5 0)) scratch)
-      go nothing = refl
-      go (just n) = rw (h, and-false (same-text (without-dot name) n))
-
-  answer-taken : (n : Name) → v .asked ≡ just n → is-asked v name ≡ true → has-room v ≡ true
-      → view-answer v name status bytes scratch ≡ view-taken v n (left-after (answer-of status bytes) scratch) (taken (answer-of status bytes) scratch)
-  unfolding is-asked view-answer view-answer-asked has-room view-taken
-  answer-taken n f h k = rw (f, rw f at h, k)
-
--- whether a name is now asked, by what is stored
-pub asked-stored : (e : Evaluation) (name : Octets) → (e .asked && same-text (without-dot name) (asked-name (drop (e .place .0) (slot (e .domains) (e .numbers) (e .walk))))) ≡ is-asked (view e) name
-unfolding view is-asked asked-in marked
-asked-stored e name = go (e .asked)
-  where
-    go : (b : Bool) → (b && same-text (without-dot name) (marked e (e .walk) (e .place))) ≡ elim (asked-in e b) as (λ _. Bool) [ nothing ↦ false | just n ↦ same-text (without-dot name) n ]
-    go true = refl
-    go false = refl
-
-module _ (e : Evaluation) (name : Octets) (status : Status) (bytes scratch : Octets) where
-  pub answer-not-now : is-asked (view e) name ≡ false → Does e (answer name status bytes scratch) e (given (acceptance-back (Acceptance.Refused (refusal 5 0))) scratch)
-  unfolding view-call acceptance-back
-  answer-not-now h = record { leaves = rw (answer-not-asked (view e) name status bytes scratch h); gives = rw (answer-not-asked (view e) name status bytes scratch h); stands = λ x. refl; same-domains = (refl, refl) }
-
-  module _ (full : length (e .kept) ≡ 408) where
-    pub answer-too-many : 136 ≤ e .count → Does e (answer name status bytes scratch) e (given (acceptance-back (Acceptance.Refused (refusal 5 0))) scratch)
-    unfolding view-call acceptance-back has-room
-    answer-too-many h =
-        let room : has-room (view e) ≡ false = le-ltb (length (view e .replies)) 136 (omega (arith, replies-length e full)) in
-        record { leaves = rw (answer-no-room (view e) name status bytes scratch room); gives = rw (answer-no-room (view e) name status bytes scratch room); stands = λ x. refl; same-domains = (refl, refl) }
-
-    module _ (asked : is-asked (view e) name ≡ true) (few : e .count < 136) (t : Taken) (after : Octets) (takes : Takes (answer-of status bytes) scratch t after) where
-      now-marked : view e .asked ≡ just (marked e (e .walk) (e .place))
-      unfolding view is-asked asked-in
-      now-marked = go (e .asked) asked
-        where
-          go : (b : Bool) → elim (asked-in e b) as (λ _. Bool) [ nothing ↦ false | just n ↦ same-text (without-dot name) n ] ≡ true → asked-in e b ≡ just (marked e (e .walk) (e .place))
-          go true h = refl
-          go false h = absurd (false≢true h)
-
-      answer-takes : view-call (view e) (answer name status bytes scratch) ≡ view-taken (view e) (marked e (e .walk) (e .place)) after t
-      unfolding view-call has-room
-      answer-takes =
-          answer-taken (view e) name status bytes scratch (marked e (e .walk) (e .place)) now-marked asked (lt-ltb (length (view e .replies)) 136 (omega (arith, replies-length e full)))
-          ∙ rw (← (takes .answers), ← (takes .leaves))
-
-    module _ (asked : is-asked (view e) name ≡ true) (few : e .count < 136) (after : Octets) where
-      pub answer-refused : (f : Refusal) → Takes (answer-of status bytes) scratch (Taken.Refused f) after → Does e (answer name status bytes scratch) e (given (acceptance-back (Acceptance.Refused f)) after)
-      unfolding view-taken acceptance-back
-      answer-refused f takes = record { leaves = rw (answer-takes asked few (Taken.Refused f) after takes); gives = rw (answer-takes asked few (Taken.Refused f) after takes); stands = λ x. refl; same-domains = (refl, refl) }
-
-      pub answer-accepted : (r : Reply) → Takes (answer-of status bytes) scratch (Taken.Reply r) after → (later : Evaluation) → view later ≡ keeping (view e) (marked e (e .walk) (e .place)) r
-          → (later .domains ≡ e .domains) × (later .numbers ≡ e .numbers) → Does e (answer name status bytes scratch) later (given (acceptance-back Acceptance.Accepted) after)
-      unfolding view-taken acceptance-back changing
-      answer-accepted r takes later h d = record { leaves = rw (answer-takes asked few (Taken.Reply r) after takes) h; gives = rw (answer-takes asked few (Taken.Reply r) after takes); stands = λ x. absurd (false≢true (sym x)); same-domains = d }

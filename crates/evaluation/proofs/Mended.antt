@@ -9,7 +9,8 @@ use Rattle.book.specs.MendedCalls.{CallsMended}
 use Rattle.book.proofs.Mended.{calls-mended}
 use Rattle.evaluation.specs.code.View.{Changes, started-view, given-message}
 use Rattle.evaluation.specs.MendedRuns.{Judged, RunsMended}
-use Rattle.evaluation.proofs.ViewLaws.{as-the-book}
+use Rattle.evaluation.proofs.SoundLaws.{accepted-sound}
+use Rattle.evaluation.proofs.MachineLaws.{as-the-book}
 
 -- ------------------------------------------------------------------ what the last call gave
 
@@ -32,7 +33,7 @@ result-given : (m : Message) (cs : List Call) (v : Verdict) (j : Judged m cs v) 
 unfolding book-after book-call Changes started-view
 result-given m cs v j =
     let opens = (rw (j .accepts) at (j .starts)) .1 in
-    let all = as-the-book (given-message (j .author) (j .existence) (j .support) (j .packed)) m (j .accepts) (j .begun .evaluation) opens (cs ++ (result ∷ [])) (j .gave ++ (j .last ∷ [])) (j .ran) in
+    let all = as-the-book m (accepted-sound (given-message (j .author) (j .existence) (j .support) (j .packed)) m (j .accepts)) opens (j .ran) in
     ap (λ (g : Given). g .back) (sym (last-given book-call (opened m) cs result (j .last)) ∙ ap (last-of (j .last)) (sym all) ∙ last-added (j .last) (j .gave) (j .last))
     ∙ j .says
 

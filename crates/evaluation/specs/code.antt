@@ -1,2 +1,4 @@
 -- How the code keeps and answers things: only contracts and proofs of code cite these definitions.
+pub mod Machine
 pub mod View
+pub mod Showing

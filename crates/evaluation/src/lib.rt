@@ -1,20 +1,23 @@
 // The evaluation of one message, as calls hand it on: what it holds, what each call promises, and demand 3.
 use domain::Octet;
 use octets::Refusal;
-use verdict_apply::Judgement;
-use verdict_apply::Terms;
+use verdict_cursor::Position;
+use verdict_judgement::Judgement;
+use verdict_judgement::Terms;
 
-// A message, its accepted answers, and the name now asked, by its walk and place.
+// A message (its domains in slots of 253 octets, and three numbers for each), its accepted answers, and, once a name was
+// given to ask, what is stored of its walks and where it stands.
 pub struct Evaluation {
     pub started: bool,
-    pub domains: [u8; 4301],
-    pub numbers: [usize; 51],
-    pub terms: Terms,
-    pub kept: [usize; 408],
-    pub count: usize,
+    pub handed: bool,
     pub asked: bool,
-    pub walk: usize,
-    pub place: Octet,
+    pub domains: [u8; 4301],
+    pub numbers: [u16; 51],
+    pub terms: Terms,
+    pub kept: [u16; 408],
+    pub count: usize,
+    pub stored: [u16; 17],
+    pub position: Position,
 }
 
 // A verdict, and how many names were asked for it.

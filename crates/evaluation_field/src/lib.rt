@@ -2,15 +2,15 @@
 ghost use mathlib.Core.Path.{_≡_};
 ghost use Rattle.octets.specs.Octets.{Octets};
 ghost use Rattle.octets.specs.Lent.{WritesIf};
-ghost use Rattle.verdict_apply.specs.code.Judging.{stored-message, verdict-in};
+ghost use Rattle.verdict_judgement.specs.code.Judging.{stored-message, verdict-in};
 ghost use Rattle.book.specs.Book.{field, given, back-of, passed-or-failed, field-of};
 ghost use Rattle.evaluation.specs.code.View.{Does};
 use evaluation::Evaluation;
+use evaluation::Resulting;
 use octets::Written;
 use verdict::Result;
-use verdict_apply::Judged;
-use verdict_apply::Judgement;
-use verdict_apply::Terms;
+use verdict_judgement::Judgement;
+use verdict_judgement::Terms;
 
 // Whether a result is pass or fail.
 fn is_pass_or_fail(r: Result) -> bool
@@ -26,7 +26,7 @@ fn is_pass_or_fail(r: Result) -> bool
 }
 
 // The field of a verdict into the front of lent memory.
-fn write_methods(numbers: &[usize], t: Terms, j: Judgement, out: &mut [u8]) -> Written
+fn write_methods(numbers: &[u16], t: Terms, j: Judgement, out: &mut [u8]) -> Written
     ensures { λ r. ⌜ ((domains : Octets) → WritesIf (field-of (stored-message domains (now (numbers .entry)) t) (verdict-in (stored-message domains (now (numbers .entry)) t) j)) (now (out .entry)) r (now (out .exit))) ⌝ }
 {
     let found = j.result;
@@ -46,12 +46,12 @@ fn write_methods(numbers: &[usize], t: Terms, j: Judgement, out: &mut [u8]) -> W
 pub fn field(e: Evaluation, out: &mut [u8]) -> Written
     ensures { λ r. ⌜ Does e (field (now (out .entry))) e (given (back-of r) (now (out .exit))) ⌝ }
 {
-    if !e.started {
-        return Written::Refused(evaluation_state::refuse(7, 0));
-    }
-    let terms = e.terms;
-    match verdict_judge::evaluate(&e.domains, &e.numbers, &e.kept, e.count, terms) {
-        Judged::Missing { walk: _, place: _ } => Written::Refused(evaluation_state::refuse(7, 0)),
-        Judged::Done(j) => write_methods(&e.numbers, terms, j, out),
+    match evaluation_result::result(e) {
+        Resulting::Refused(f) => Written::Refused(f),
+        Resulting::Verdict(v) => {
+            let terms = e.terms;
+            let j = v.judgement;
+            write_methods(&e.numbers, terms, j, out)
+        }
     }
 }

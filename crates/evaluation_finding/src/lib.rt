@@ -1,19 +1,19 @@
 // What is entered in a day's rows of an evaluation that stands at its verdict.
 ghost use mathlib.Core.Path.{_≡_};
 ghost use Rattle.octets.specs.Octets.{Octets};
-ghost use Rattle.verdict_apply.specs.code.Judging.{stored-message, verdict-in};
+ghost use Rattle.verdict_judgement.specs.code.Judging.{stored-message, verdict-in};
 ghost use Rattle.rows.specs.Rows.{result-number, disposition-number, finding-of};
 ghost use Rattle.evaluation_finding.specs.code.Entering.{Finds};
 use domain::Octet;
 use evaluation::Evaluation;
+use evaluation::Resulting;
 use octets::Refusal;
 use policy::Policy;
 use rows::Finding;
 use verdict::Disposition;
 use verdict::Result;
-use verdict_apply::Judged;
-use verdict_apply::Judgement;
-use verdict_apply::Terms;
+use verdict_judgement::Judgement;
+use verdict_judgement::Terms;
 
 // What a verdict says to a day's list, and where the domain of its applied record begins in the author domain (its end where
 // there is none); or a refusal.
@@ -57,7 +57,7 @@ fn number_disposition(d: Disposition) -> u8
 }
 
 // A verdict on a stored message, in numbers, as it is entered.
-fn enter(numbers: &[usize], t: Terms, j: Judgement) -> Found
+fn enter(numbers: &[u16], t: Terms, j: Judgement) -> Found
     ensures { λ r. ⌜ ((domains : Octets) → r ≡ Found.Verdict (finding-of (stored-message domains (now (numbers .entry)) t) (verdict-in (stored-message domains (now (numbers .entry)) t) j)) (j .begin)) ⌝ }
 {
     let m = evaluation_methods::find_methods(numbers, t.identifiers, j.alignments);
@@ -81,12 +81,12 @@ fn enter(numbers: &[usize], t: Terms, j: Judgement) -> Found
 pub fn finding(e: Evaluation) -> Found
     ensures { λ r. ⌜ Finds e r ⌝ }
 {
-    if !e.started {
-        return Found::Refused(evaluation_state::refuse(7, 0));
-    }
-    let terms = e.terms;
-    match verdict_judge::evaluate(&e.domains, &e.numbers, &e.kept, e.count, terms) {
-        Judged::Missing { walk: _, place: _ } => Found::Refused(evaluation_state::refuse(7, 0)),
-        Judged::Done(j) => enter(&e.numbers, terms, j),
+    match evaluation_result::result(e) {
+        Resulting::Refused(f) => Found::Refused(f),
+        Resulting::Verdict(v) => {
+            let terms = e.terms;
+            let j = v.judgement;
+            enter(&e.numbers, terms, j)
+        }
     }
 }

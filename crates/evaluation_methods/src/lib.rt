@@ -50,7 +50,7 @@ fn either(a: bool, b: bool) -> bool
 }
 
 // The methods of so many identifiers, from a walk's on, with their alignments as digits.
-fn methods_from(numbers: &[usize], walk: usize, more: usize, digits: usize) -> Methods
+fn methods_from(numbers: &[u16], walk: usize, more: usize, digits: usize) -> Methods
     requires { ⌜ walk + more ≤ 17 ⌝ }
     ensures { λ r. ⌜ ((domains : Octets) → r ≡ methods-of (stored-identifiers domains (now (numbers .entry)) walk more) (alignments-in more digits)) ⌝ }
 {
@@ -75,7 +75,7 @@ fn methods_from(numbers: &[usize], walk: usize, more: usize, digits: usize) -> M
 }
 
 // The methods of a message of so many identifiers, of which 16 at most are stored.
-pub fn find_methods(numbers: &[usize], identifiers: usize, digits: usize) -> Methods
+pub fn find_methods(numbers: &[u16], identifiers: usize, digits: usize) -> Methods
     ensures { λ r. ⌜ ((domains : Octets) → r ≡ methods-of (stored-identifiers domains (now (numbers .entry)) 1 (min identifiers 16)) (alignments-in (min identifiers 16) digits)) ⌝ }
 {
     let count = text_parts::smaller(identifiers, 16);

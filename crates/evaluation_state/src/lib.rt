@@ -13,7 +13,9 @@ use evaluation::Evaluation;
 use octets::Refusal;
 use octets::Written;
 use verdict::Existence;
-use verdict_apply::Terms;
+use verdict_cursor::Place;
+use verdict_cursor::Position;
+use verdict_judgement::Terms;
 
 // An evaluation in which nothing was started and no name is asked.
 pub fn empty() -> Evaluation
@@ -21,6 +23,8 @@ pub fn empty() -> Evaluation
 {
     Evaluation {
         started: false,
+        handed: false,
+        asked: false,
         domains: [0; 4301],
         numbers: [0; 51],
         terms: Terms {
@@ -30,9 +34,10 @@ pub fn empty() -> Evaluation
         },
         kept: [0; 408],
         count: 0,
-        asked: false,
-        walk: 0,
-        place: Octet(0),
+        stored: [0; 17],
+        position: Position {
+            place: Place::OwnName,
+        },
     }
 }
 

@@ -13,7 +13,7 @@ use lib.Dec.{ltb}
 use lib.ListN.{length, length-append}
 use borrow.Author.Tests.{lt-ltb, le-ltb}
 use Rattle.octets.specs.Octets.{Octets, any}
-use Rattle.octets.specs.Framing.{mark-of, size-of, body-of, after-record}
+use Rattle.octets.specs.Framing.{size-of, body-of, after-record}
 use Rattle.octets.specs.Refusing.{_>>=_, OrRefused, ok, not-ok, refusal, refuse-if, or-refuse}
 use Rattle.octets.specs.declared.Refusal.{Refusal}
 use Rattle.octets.proofs.FramingLaws.{whole, not-whole, after-length}

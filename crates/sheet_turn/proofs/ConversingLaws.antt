@@ -25,10 +25,12 @@ use Rattle.book.specs.Book.{Call, next, answer, ask-name, verdict, accepted, re
 use Rattle.book.specs.BookClaims.{book-after, asked-names, now-asked}
 use Rattle.book.proofs.BookLaws.{after-snoc, book-claims}
 use Rattle.book.proofs.DotLaws.{one-name}
-use Rattle.book.proofs.StartLaws.{accepted-few}
 use Rattle.evaluation.specs.declared.Evaluation.{Evaluation}
-use Rattle.evaluation.specs.code.View.{view, opened-view, Does, replies, shown}
-use Rattle.evaluation.proofs.ViewLaws.{does-shown, few-asked}
+use Rattle.evaluation.specs.code.Machine.{keeps-opened}
+use Rattle.evaluation.specs.code.View.{view, Does}
+use Rattle.evaluation.specs.code.Showing.{Shows}
+use Rattle.evaluation.proofs.SoundLaws.{Sound, accepted-sound, few-asked}
+use Rattle.evaluation.proofs.MachineLaws.{opened-shows, does-shows}
 use Rattle.sheet_turn.specs.declared.Turn.{Turn}
 use Rattle.sheet.specs.Printed.{line, ask-lines, verdict-lines, verdict-text, refusal-text, unreadable, evaluated-over, text-of}
 use Rattle.sheet_print.proofs.PrintingLaws.{ask-lines-snoc, ask-line-length, put-front}
@@ -96,19 +98,19 @@ module _ (m : Message) (α : Name → Answer) (turns : ℕ) (e : Evaluation) (at
   unfolding asked-names now-asked answered-names b
   asked-is = rw (χ .none-asked) (append-nil _)
 
-  -- at most 16 identifiers
-  few : length (m .identifiers) ≤ 16
-  few = accepted-few (χ .handed) m (χ .starts)
+  -- what holds of a message that a start accepts
+  sound : Sound m
+  sound = accepted-sound (χ .handed) m (χ .starts)
 
   -- at most 136 names were answered
   pub turns-most : turns ≤ 136
   unfolding answered-names b
-  turns-most = omega (arith, χ .turned, ap length asked-is, few-asked m few (χ .calls))
+  turns-most = omega (arith, χ .turned, ap length asked-is, few-asked m (sound .few) (χ .calls))
 
   -- the next step
-  pub next-gives : {now : Evaluation} {g : Given} → Does e next now g → (view now ≡ shown (book-after m (χ .calls ++ (next ∷ [])))) × (g ≡ next-by (book-after m (χ .calls)) (standing (book-after m (χ .calls))) .1)
+  pub next-gives : {now : Evaluation} {g : Given} → Does e next now g → Shows now (book-after m (χ .calls ++ (next ∷ []))) × (g ≡ next-by (book-after m (χ .calls)) (standing (book-after m (χ .calls))) .1)
   unfolding book-call book-next
-  next-gives d = does-shown m few (χ .calls) (χ .holds) d
+  next-gives d = does-shows m sound (χ .calls) (χ .holds) d
 
   -- at the verdict
   pub ended : (w : Verdict) (c : ℕ) → standing (book-after m (χ .calls)) ≡ has w → c ≡ count (book-after m (χ .calls))
@@ -136,7 +138,7 @@ module _ (m : Message) (α : Name → Answer) (turns : ℕ) (e : Evaluation) (at
     -- at most 136 names
     pub turns-few : turns + 1 ≤ 136
     unfolding answered-names b
-    turns-few = omega (arith, χ .turned, ap length asked-then ∙ length-append answered-names (n ∷ []), few-asked m few (χ .calls ++ (next ∷ [])))
+    turns-few = omega (arith, χ .turned, ap length asked-then ∙ length-append answered-names (n ∷ []), few-asked m (sound .few) (χ .calls ++ (next ∷ [])))
 
     -- an answer that cannot be read
     pub not-read : texts (α n) ≡ nothing → text-of (evaluated-over m α) ≡ text-of (not-ok (refusal 6 0))
@@ -146,7 +148,7 @@ module _ (m : Message) (α : Name → Answer) (turns : ℕ) (e : Evaluation) (at
         rw (l, asked-then, any-append, any-append, u, or-true)
 
     -- and answered as the sheet has it
-    module _ (status : Status) (bytes scratch : Octets) (k : length scratch ≡ 4096) (a : answer-of status bytes ≡ α n) {asking after-it : Evaluation} (v : view asking ≡ shown (book-after m (χ .calls ++ (next ∷ [])))) {g : Given} (d : Does asking (answer n status bytes scratch) after-it g) where
+    module _ (status : Status) (bytes scratch : Octets) (k : length scratch ≡ 4096) (a : answer-of status bytes ≡ α n) {asking after-it : Evaluation} (v : Shows asking (book-after m (χ .calls ++ (next ∷ [])))) {g : Given} (d : Does asking (answer n status bytes scratch) after-it g) where
       more-calls : List Call
       more-calls = (χ .calls ++ (next ∷ [])) ++ (answer n status bytes scratch ∷ [])
 
@@ -154,9 +156,9 @@ module _ (m : Message) (α : Name → Answer) (turns : ℕ) (e : Evaluation) (at
       unfolding book-call
       book-is = rw after-next (answered (book-after m (χ .calls)) n undotted status bytes scratch k ∙ rw a)
 
-      shows-then : (view after-it ≡ shown (book-after m more-calls)) × (g ≡ answer-kept (with-asked (book-after m (χ .calls)) n) n (α n) scratch (texts (α n)) .1)
+      shows-then : Shows after-it (book-after m more-calls) × (g ≡ answer-kept (with-asked (book-after m (χ .calls)) n) n (α n) scratch (texts (α n)) .1)
       unfolding more-calls
-      shows-then = let (h, f) = does-shown m few (χ .calls ++ (next ∷ [])) v d in (h, f ∙ ap (λ x. x .1) book-is)
+      shows-then = let (h, f) = does-shows m sound (χ .calls ++ (next ∷ [])) v d in (h, f ∙ ap (λ x. x .1) book-is)
 
       -- refused: 6, and so is the sheet
       pub answer-refused : (f : Refusal) → g .back ≡ refused f → text-of (evaluated-over m α) ≡ text-of (not-ok f)
@@ -193,12 +195,12 @@ module _ (m : Message) (α : Name → Answer) (turns : ℕ) (e : Evaluation) (at
               }
 
 -- the conversation begins
-pub begins : (g : GivenMessage) (m : Message) → started g ≡ ok m → (α : Name → Answer) (e : Evaluation) (lines : Octets) → view e ≡ opened-view m → length lines ≡ 36864 → Conversing m α 0 e 0 lines
-unfolding book-after leaves opened opened-view shown replies names find any ask-lines flatten
+pub begins : (g : GivenMessage) (m : Message) → started g ≡ ok m → (α : Name → Answer) (e : Evaluation) (lines : Octets) → view e ≡ keeps-opened m → length lines ≡ 36864 → Conversing m α 0 e 0 lines
+unfolding book-after leaves opened names find any ask-lines flatten
 begins g m s α e lines v size =
     record {
       calls = [];
-      holds = v;
+      holds = opened-shows m v;
       none-asked = refl;
       completes = λ x r f. cc f;
       readable = refl;

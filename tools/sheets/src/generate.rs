@@ -49,6 +49,12 @@ pub fn hostile(seed: u64, index: u64) -> Vec<u8> {
     hostile::spoil(&mut random, draft)
 }
 
+/// Octets with a few of them flipped, put in, taken out, or a slice twice.
+pub fn mutated(random: &mut Random, mut octets: Vec<u8>) -> Vec<u8> {
+    hostile::mutated(random, &mut octets);
+    octets
+}
+
 /// A sheet with answers that are never asked, up to so many octets; the last few
 /// octets may be left over.
 pub fn filled(mut sheet: Vec<u8>, octets: usize) -> Vec<u8> {

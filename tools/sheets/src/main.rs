@@ -23,9 +23,13 @@ const USAGE: &str = "usage:
   dmarc-tools marked
   dmarc-tools vectors CASES EXPECTED
   dmarc-tools calls CASES EXPECTED
+  dmarc-tools calls DIR COUNT SEED
   dmarc-tools timing COUNT DIR
   dmarc-tools messages CASES EXPECTED
 KIND is ordinary or hostile.";
+
+/// The kinds of calls.
+const CALLS: &str = "SNARFD";
 
 fn main() -> ExitCode {
     command::run(|words| match words {
@@ -37,7 +41,8 @@ fn main() -> ExitCode {
         ["tally", kind, seed, count] => tallied(kind, seed, count),
         ["marked"] => marked(),
         ["vectors", cases, expected] => write_cases([cases, expected], vectors::files(), "PAFIL"),
-        ["calls", cases, expected] => write_cases([cases, expected], calls::files(), "SNARFD"),
+        ["calls", cases, expected] => write_cases([cases, expected], calls::files(), CALLS),
+        ["calls", dir, count, seed] => write_random_calls(dir, count, seed),
         ["timing", count, dir] => write_timing(count, dir),
         ["messages", cases, expected] => write_cases([cases, expected], messages::files(), "M"),
         _ => Err(USAGE.to_string()),
@@ -68,9 +73,14 @@ fn described() -> Result<(), String> {
 
 fn numbers(kind: &str, seed: &str, count: &str) -> Result<(SheetKind, u64, u64), String> {
     let kind = SheetKind::read(kind).ok_or("KIND is ordinary or hostile")?;
+    let (seed, count) = seed_and_count(seed, count)?;
+    Ok((kind, seed, count))
+}
+
+fn seed_and_count(seed: &str, count: &str) -> Result<(u64, u64), String> {
     let seed = seed.parse().map_err(|_| "SEED is a number")?;
     let count = count.parse().map_err(|_| "COUNT is a number")?;
-    Ok((kind, seed, count))
+    Ok((seed, count))
 }
 
 fn write_sheets(kind_word: &str, seed: &str, count: &str, dir: &str) -> Result<(), String> {
@@ -117,6 +127,14 @@ fn write_cases(paths: [&str; 2], files: Result<Files, String>, kinds: &str) -> R
         output(format!("{kind} {}\n", count.count()).as_bytes())?;
     }
     Ok(())
+}
+
+/// Writes the calls of random messages as the files `stdin` and `stdout`.
+fn write_random_calls(dir: &str, count: &str, seed: &str) -> Result<(), String> {
+    let (seed, count) = seed_and_count(seed, count)?;
+    fs::create_dir_all(dir).map_err(failed)?;
+    let [cases, expected] = ["stdin", "stdout"].map(|name| format!("{dir}/{name}"));
+    write_cases([&cases, &expected], calls::random_files(count, seed), CALLS)
 }
 
 /// Writes a file for each number of identifiers and length of the walks, named

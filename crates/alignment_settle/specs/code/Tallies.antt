@@ -4,21 +4,12 @@ use mathlib.Core.Bool.{false, _||_}
 use mathlib.Core.Option.{Option, none as nothing, some as just}
 use Prim.Native.Nat.{ℕ, zero, suc, _+_, _*_, _/_, _%_}
 use lib.Dec.{eqb}
-use lib.ListN.{drop}
-use Rattle.octets.specs.Octets.{Octets, if_then_else_}
-use Rattle.lookup.specs.Lookup.{_>>=_, Lookups, done, Standing, needs, has}
-use Rattle.domain.specs.Domain.{Domain, asked-name}
-use Rattle.policy.specs.declared.Settings.{Settings}
-use Rattle.txt.specs.declared.Reply.{Reply}
+use Rattle.octets.specs.Octets.{if_then_else_}
 use Rattle.alignment.specs.declared.Outcome.{Outcome}
 use Rattle.alignment.specs.declared.Alignment.{Alignment}
-use Rattle.alignment_settle.specs.declared.Organizational.{Organizational}
 use Rattle.alignment_settle.specs.declared.Settled.{Settled}
-use Rattle.alignment_settle.specs.declared.Aligned.{Aligned}
 use Rattle.alignment_settle.specs.declared.Tally.{Tally}
-use Rattle.alignment_settle.specs.declared.Tallied.{Tallied}
-use Rattle.alignment.specs.Alignments.{Identifier, is-aligned, is-unknown, is-temporary, align}
-use Rattle.alignment_stored.specs.code.Stored.{slot}
+use Rattle.alignment.specs.Alignments.{Identifier, is-aligned, is-unknown, is-temporary}
 
 -- ------------------------------------------------------------------ alignments as digits
 
@@ -59,31 +50,13 @@ tally-with o a t = record {
   temporary = is-temporary o || t .temporary;
 }
 
--- the alignments of identifiers, kept as a tally
-unfoldable pub tally-each : Settings → Domain → Option Domain → List Identifier → Lookups Reply Tally
-tally-each s author organization [] = done no-tally
-tally-each s author organization (i ∷ is) = do
-  a ← align s author organization i
-  t ← tally-each s author organization is
-  done (tally-with (i .outcome) a t)
+-- of identifiers, each with its alignment
+unfoldable pub tally-of : List (Identifier × Alignment) → Tally
+tally-of [] = no-tally
+tally-of (w ∷ ws) = tally-with (w .0 .outcome) (w .1) (tally-of ws)
 
 -- ------------------------------------------------------------------ the code's answers, read
-
--- an organizational domain, by where it begins in its start
-unfoldable pub organization-of : Domain → Organizational → Option Domain
-organization-of d Organizational.Unknown = nothing
-organization-of d (Organizational.From at) = just (drop (at .0) d)
 
 unfoldable pub settled-of : Settled → Option Alignment
 settled-of (Settled.Known a) = just a
 settled-of Settled.Open = nothing
-
--- of an identifier with this domain
-unfoldable pub aligned-standing : Domain → Aligned → Standing Alignment
-aligned-standing d (Aligned.Missing place) = needs (asked-name (drop (place .0) d))
-aligned-standing d (Aligned.Known a) = has a
-
--- a target is marked by its walk, and by where it begins in that walk's domain
-unfoldable pub tallied-standing : Octets → List ℕ → Tallied → Standing Tally
-tallied-standing domains numbers (Tallied.Missing walk place) = needs (asked-name (drop (place .0) (slot domains numbers walk)))
-tallied-standing domains numbers (Tallied.Done t) = has t

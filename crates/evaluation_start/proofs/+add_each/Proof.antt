@@ -9,7 +9,7 @@ use borrow.Fn.PlainCycle.{Measures, is, falls, and}
 use Rattle.evaluation_start.proofs.add_each.Reads as add-each
 use Rattle.evaluation_start.proofs.add_each.Kinds as add-each-kinds
 use Rattle.evaluation_start.proofs.+add_each.Lts-add_each as add-each-lts
-use Rattle.evaluation_start.proofs.add.Reads as add-reads
+use Rattle.evaluation_add.proofs.add.Reads as add-reads
 use Rattle.evaluation_start.proofs.item_domain.Reads as item-domain-reads
 use Rattle.records_fields.proofs.body.Reads as body-reads
 use Rattle.records_fields.proofs.octet_at.Reads as octet-at-reads
@@ -19,7 +19,9 @@ use Rattle.verdict.specs.Message.{Message}
 use Rattle.octets.specs.Framing.{after-record}
 use Rattle.book.specs.Start.{item}
 use Rattle.book.proofs.StartLaws.{unpacked-none}
-use Rattle.evaluation_start.specs.code.Adding.{Holds, Opens, AddsEach, adding, adding-each}
+use Rattle.evaluation_open.specs.code.Opening.{Holds, Opens}
+use Rattle.evaluation_add.specs.code.Adding.{adding}
+use Rattle.evaluation_start.specs.code.AddingEach.{adding-each, AddsEach}
 use Rattle.evaluation_start.proofs.StartLaws.{each-refused, each-more}
 use Rattle.evaluation_start.proofs.+add_each.{statement}
 use Rattle.evaluation_start.proofs.+add_each.Tie.{close}

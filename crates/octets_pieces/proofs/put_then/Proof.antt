@@ -1,7 +1,6 @@
 -- `octets_pieces::put_then` meets its contract.
 use Rattle.octets_pieces.proofs.PuttingLaws.{puts-both}
 use borrow.Author.Needs.{needs}
-use native.Mathlib.Omega.{arith}
 use Rattle.octets_pieces.proofs.put_then.Statement.{statement}
 use Rattle.octets_pieces.proofs.put_then.Tie as tie
 

@@ -2,7 +2,6 @@
 --     Upto, At         the loop's variant, i, and its invariant: the whole context, with the counts of the first i rows at 0
 -- Assumes nothing.
 use mathlib.Core.Path.{refl, sym, ap, subst, _∙_}
-use mathlib.Core.Bool.{true}
 use mathlib.Core.WellFounded.{WellFounded, InvImage·wf}
 use Prim.Native.Nat.{ℕ, _+_, _-_, _<_, _≤_, _*_, _^_, min, zero-le}
 use native.Mathlib.Nat.{lt-of-le-of-lt, le-antisymm}

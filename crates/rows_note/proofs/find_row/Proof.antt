@@ -3,7 +3,7 @@
 --     turns            a turn: it returns i, or goes on at i + 1, or leaves the loop and returns the first free row's place
 -- Assumes nothing.
 use mathlib.Core.Path.{_≡_, refl, sym}
-use mathlib.Core.Bool.{true, false}
+use mathlib.Core.Bool.{false}
 use mathlib.Core.WellFounded.{WellFounded, InvImage·wf}
 use Prim.Native.Nat.{ℕ, _+_, _-_, _<_, _≤_, _*_, _^_, min, zero-le}
 use native.Mathlib.Nat.{lt-of-le-of-lt}

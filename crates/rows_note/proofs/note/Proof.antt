@@ -3,7 +3,7 @@
 -- Assumes nothing.
 use mathlib.Core.Path.{_≡_, refl, sym, ap, subst}
 use mathlib.Core.Bool.{not}
-use Prim.Native.Nat.{ℕ, _+_, _<_, _*_, _^_}
+use Prim.Native.Nat.{ℕ, _<_, _*_, _^_}
 use mathlib.Core.List.{List, [], _∷_}
 use lib.ListN.{length, set, length-set}
 use lib.Dec.{T as Holds, leb, leb→le, nleb→lt, lit<}
@@ -31,7 +31,7 @@ use denote.Builtin.{u8}
 use denote.Ref.{RefT}
 use denote.Slice.{sliceTy, sliceVal, MutSlice, Room, heres, codedHoleys, at-slice, slice-vals, mut-slice-tells}
 use denote.Lend.{Held}
-use denote.Index.{row, place-is, elem-back, elem-put, opens-slice, closes-slice}
+use denote.Index.{place-is, elem-back, elem-put, opens-slice, closes-slice}
 use denote.Signature.{plain}
 use denote.Steps.{nothing, owned}
 use denote.Struct.Laws as LL

@@ -3,8 +3,8 @@ use borrow.Author.Needs.{needs}
 use Rattle.sheet_turn.proofs.ConversingLaws.{asks, ends, not-refused, ending}
 use mathlib.Core.Path.{refl, _∙_}
 use Rattle.sheet_turn.proofs.NameLaws.{front-part}
-use Rattle.evaluation.specs.code.View.{view, marked, Does, step-back}
-use Rattle.verdict_apply.specs.code.Judging.{verdict-in}
+use Rattle.evaluation.specs.code.View.{message-now, marked, Does, step-back}
+use Rattle.verdict_judgement.specs.code.Judging.{verdict-in}
 use Rattle.book.specs.Book.{next, given, ask-name}
 use mathlib.Core.List.{[]}
 use mathlib.Core.Path.{_∙_}
@@ -74,7 +74,7 @@ returns-2 c = λ m turns h χ.
     let stepped = known .before .before in
     let v = known .step2 .given .0 .0 in
     ending _ refl
-    (ends χ (verdict-in (view (stepped .next .result .evaluation) .message) (v .judgement)) (v .count)
+    (ends χ (verdict-in (message-now (stepped .next .result .evaluation)) (v .judgement)) (v .count)
     (rw (known .step2 .given .1) at (stepped .next .ensures .does)) (put .append-verdict .ensures))
 
 same-length-3 : tie.Need-same-length-3

@@ -14,7 +14,7 @@ use Rattle.book.specs.Start.{GivenMessage, started}
 use Rattle.book.specs.Book.{Call, next, standing}
 use Rattle.book.specs.BookClaims.{book-after}
 use Rattle.evaluation.specs.declared.Evaluation.{Evaluation}
-use Rattle.evaluation.specs.code.View.{view, shown}
+use Rattle.evaluation.specs.code.Showing.{Shows}
 use Rattle.records.specs.Sheet.{answer-at}
 use Rattle.records_fields.specs.code.Layout.{listed}
 use Rattle.sheet_turn.specs.declared.Turn.{Turn}
@@ -28,7 +28,7 @@ answers-on records sheet = answer-at (listed records sheet)
 -- lines up to a place are those of the names asked
 pub record Conversing (m : Message) (α : Name → Answer) (turns : ℕ) (e : Evaluation) (at : ℕ) (lines : Octets) : Type 0 where
   pub calls : List Call
-  pub holds : view e ≡ shown (book-after m calls)
+  pub holds : Shows e (book-after m calls)
   pub none-asked : book-after m calls .asked ≡ nothing
   pub completes : Completes α (book-after m calls .answers)
   pub readable : any (unreadable α) (names (book-after m calls .answers)) ≡ false
@@ -44,7 +44,7 @@ pub record Asking (m : Message) (α : Name → Answer) (turns : ℕ) (e : Evalua
   pub before : Evaluation
   pub conversing : Conversing m α turns before at lines
   pub needed : standing (book-after m (conversing .calls)) ≡ needs name
-  pub asks : view e ≡ shown (book-after m (conversing .calls ++ (next ∷ [])))
+  pub asks : Shows e (book-after m (conversing .calls ++ (next ∷ [])))
   pub short : length name ≤ 260
 
 -- book-after a turn the conversation goes on, or the lines are the whole text

@@ -1,6 +1,6 @@
 -- What the steps of taking an answer promise one another.
 use mathlib.Core.Path.{_≡_}
-use mathlib.Core.List.{List, [], _∷_, flatten}
+use mathlib.Core.List.{List, [], flatten}
 use mathlib.Core.Bool.{Bool, true, false}
 use mathlib.Core.Option.{Option, none as nothing, some as just, Option·map}
 use Prim.Native.Nat.{ℕ, _≤_}

@@ -1,10 +1,7 @@
 use borrow.Author.Needs.{needs}
 use Rattle.waslidhaj.proofs.LengthLaws.{wrote-length, refused-length}
 use Rattle.sheet.specs.Printed.{printed}
-use mathlib.Core.Path.{_≡_}
-use Prim.Native.Nat.{ℕ, _≤_, _<_, _+_, _-_, _*_}
-use native.Mathlib.Omega.{arith}
-use lib.ListN.{length}
+use Prim.Native.Nat.{_-_}
 use Rattle.waslidhaj.proofs.waslidhaj_run.Statement.{statement}
 use Rattle.waslidhaj.proofs.waslidhaj_run.Tie as tie
 use Rattle.waslidhaj.proofs.waslidhaj_run.Reads as reads

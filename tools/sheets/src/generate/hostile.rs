@@ -10,6 +10,7 @@ use crate::random::Random;
 use crate::written::{self, Record};
 use drafts::DRAFT_FAULTS;
 use evaluator::sheet::MOST_OCTETS;
+pub use octets::mutated;
 use octets::OCTET_FAULTS;
 use records::{MARKS, RECORD_FAULTS};
 

@@ -25,22 +25,27 @@ pub use call::{AnswerCall, Call, StartCall};
 pub use packing::packed;
 
 use super::cases::Files;
-use evaluator::book::Book;
+use scramble::Made;
 
-/// All calls, in their order, or nothing if a message cannot be written.
-fn calls() -> Option<Vec<Call>> {
-    let plans = accepted::messages()?;
-    Some(scramble::scrambled(&plans, refused::messages()))
+/// The fixed list of calls. The error is of a call some part of which is too
+/// long for its length.
+pub fn files() -> Result<Files, String> {
+    let plans = accepted::messages();
+    written(plans.map(|plans| scramble::scrambled(&plans, refused::messages())))
 }
 
-/// The error is of a call some part of which is too long for its length.
-pub fn files() -> Result<Files, String> {
+/// The calls of so many random messages of a seed, with the same error.
+pub fn random_files(count: u64, seed: u64) -> Result<Files, String> {
+    written(scramble::seeded(count, seed))
+}
+
+/// Calls and their lines, or nothing if a message cannot be written.
+fn written(made: Option<Vec<Made>>) -> Result<Files, String> {
     let too_long = "a call is too long for its length";
-    let mut book = Book::default();
     let mut files = Files::default();
-    for call in calls().ok_or(too_long)? {
+    for (call, line) in made.ok_or(too_long)? {
         let octets = call.octets().ok_or(too_long)?;
-        files.push(&octets, format!("{}\n", call.line(&mut book)).as_bytes());
+        files.push(&octets, format!("{line}\n").as_bytes());
     }
     Ok(files)
 }

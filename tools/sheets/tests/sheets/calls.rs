@@ -415,11 +415,10 @@ fn nothing_started() {
     assert_eq!(lines, expected);
 }
 
-/// "For an answer: 5, 6, 10. For a field: 7, 9, 10."
-#[test]
-fn every_refusal_of_every_call() {
-    let mut counts: BTreeMap<String, usize> = BTreeMap::new();
-    for (_, _, line) in calls() {
+/// How many calls there are of each kind and with each first word or refusal.
+fn endings(calls: &[Call]) -> BTreeMap<String, usize> {
+    let mut counts = BTreeMap::new();
+    for (_, _, line) in calls {
         let words: Vec<&str> = line.split(' ').collect();
         let key = match words.as_slice() {
             [call, "refused", number, ..] => format!("{call} {number}"),
@@ -428,6 +427,23 @@ fn every_refusal_of_every_call() {
         };
         *counts.entry(key).or_default() += 1;
     }
+    counts
+}
+
+/// Checks that calls end in these ways and no others, each so often at least.
+pub fn check_endings(calls: &[Call], least: &[(&str, usize)]) {
+    let counts = endings(calls);
+    let keys: Vec<&str> = counts.keys().map(String::as_str).collect();
+    let wanted: Vec<&str> = least.iter().map(|(key, _)| *key).collect();
+    assert_eq!(keys, wanted);
+    for (key, least) in least {
+        assert!(counts[*key] >= *least, "{} of {key}", counts[*key]);
+    }
+}
+
+/// "For an answer: 5, 6, 10. For a field: 7, 9, 10."
+#[test]
+fn every_refusal_of_every_call() {
     let least = [
         ("answer 10", 100),
         ("answer 5", 100),
@@ -454,11 +470,7 @@ fn every_refusal_of_every_call() {
         ("start 4", 7),
         ("start accepted", 160),
     ];
-    let keys: Vec<&str> = counts.keys().map(String::as_str).collect();
-    assert_eq!(keys, least.map(|(key, _)| key));
-    for (key, least) in least {
-        assert!(counts[key] >= least, "{} of {key}", counts[key]);
-    }
+    check_endings(&calls(), &least);
 }
 
 /// What would be entered is asked for at a start, at an asked name, between two
@@ -496,23 +508,22 @@ fn findings_come_everywhere() {
     assert!(places.values().all(|count| *count >= 5), "{places:?}");
 }
 
-/// Scratch sizes and bytes of the answers that were accepted.
-#[test]
-fn no_short_scratch_is_accepted() {
-    for (kind, body, line) in calls() {
-        if kind == b'A' && line.starts_with("answer accepted") {
+/// Checks the lent memory of calls: no short scratch is accepted, and what a
+/// refused call was lent is unchanged.
+pub fn check_lent(calls: &[Call]) {
+    for (kind, body, line) in calls {
+        if *kind == b'A' && line.starts_with("answer accepted") {
             assert!(256 * usize::from(body[1]) + usize::from(body[2]) >= 4096);
+        }
+        if line.contains(" refused ") && (*kind == b'A' || *kind == b'F') {
+            assert!(line.contains("=0:"), "{line}");
         }
     }
 }
 
 #[test]
-fn refused_calls_leave_lent_memory_unchanged() {
-    for (kind, _, line) in calls() {
-        if line.contains(" refused ") && (kind == b'A' || kind == b'F') {
-            assert!(line.contains("=0:"), "{line}");
-        }
-    }
+fn lent_memory() {
+    check_lent(&calls());
 }
 
 #[test]

@@ -18,6 +18,7 @@ mod final_dots;
 mod generator;
 mod marked;
 mod messages;
+mod random_calls;
 mod repeats;
 mod script;
 mod timing;

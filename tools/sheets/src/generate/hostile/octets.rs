@@ -56,7 +56,7 @@ fn truncated(random: &mut Random, sheet: &mut Vec<u8>) {
 }
 
 /// A few octets flipped, put in, taken out, or a slice twice.
-fn mutated(random: &mut Random, sheet: &mut Vec<u8>) {
+pub fn mutated(random: &mut Random, sheet: &mut Vec<u8>) {
     for _ in 0..random.between(1, 4) {
         let at = random.below(sheet.len());
         let until = (at + random.between(1, 40)).min(sheet.len());

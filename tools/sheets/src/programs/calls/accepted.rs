@@ -17,17 +17,18 @@ const SEEDED: usize = 96;
 const SEED: u64 = 9989;
 const MOST_SHEET_OCTETS: usize = 1_100;
 
-/// A message that a start accepts, and its answers. A name without one is
-/// answered by none.
+/// A message, and its answers.
 #[derive(Clone, Debug)]
 pub struct Plan {
     pub start: StartCall,
     answers: HashMap<Vec<u8>, (Status, Vec<u8>)>,
+    /// How a name without an answer is answered.
+    pub missing: Status,
 }
 
 impl Plan {
-    /// The message and answers of a sheet.
-    fn of_sheet(octets: &[u8]) -> Option<Plan> {
+    /// The message and answers of a sheet, other names being answered by none.
+    pub fn of_sheet(octets: &[u8]) -> Option<Plan> {
         let sheet = sheet::read(octets).ok()?;
         let mut answers = HashMap::new();
         for given in &sheet.answers {
@@ -44,6 +45,7 @@ impl Plan {
                 packed: packed(&message.identifiers)?,
             },
             answers,
+            missing: Status::None,
         })
     }
 
@@ -54,7 +56,7 @@ impl Plan {
     /// What is answered for a name.
     pub fn answer(&self, name: &[u8]) -> (Status, Vec<u8>) {
         let known = self.answers.get(name).cloned();
-        known.unwrap_or((Status::None, Vec::new()))
+        known.unwrap_or((self.missing, Vec::new()))
     }
 }
 

@@ -1,6 +1,10 @@
 //! The order of the calls: each message is run to its verdict, with calls in
 //! between that are refused, come too early or come again.
 
+mod seeded;
+
+pub use seeded::seeded;
+
 use super::accepted::Plan;
 use super::call::{AnswerCall, Call, StartCall};
 use crate::generate::domains::dotted;
@@ -9,8 +13,11 @@ use evaluator::book::Book;
 use evaluator::txt::{self, Status};
 
 const SEED: u64 = 7489;
-/// A message of more names than this has fewer calls in between.
+/// How often something comes in between, in percent; and at most so often in a
+/// message of more names than this.
+const OFTEN: usize = 45;
 const MANY_NAMES: usize = 30;
+const SELDOM: usize = 5;
 /// Sizes of a lent output: none, one octet, around the lengths of the four
 /// fields (25, 26 and 31), and more.
 const FIELD_SIZES: [u16; 10] = [0, 1, 24, 25, 26, 27, 30, 31, 40, 300];
@@ -33,16 +40,13 @@ const UNREADABLE: [&[u8]; 10] = [
 /// A readable answer.
 const RECORD: &[u8] = b"TX\0\x13\x12v=DMARC1; p=reject";
 
+/// A call that was made, and its line.
+pub type Made = (Call, String);
+
 /// The calls of these messages, one message after the other, with refused
 /// starts in between.
-pub fn scrambled(plans: &[Plan], refused: Vec<StartCall>) -> Vec<Call> {
-    let mut scrambler = Scrambler {
-        random: Random::of(SEED, 0),
-        book: Book::default(),
-        calls: Vec::new(),
-        refused,
-        last: b"_dmarc.example.com".to_vec(),
-    };
+pub fn scrambled(plans: &[Plan], refused: Vec<StartCall>) -> Vec<Made> {
+    let mut scrambler = Scrambler::new(Random::of(SEED, 0), refused);
     scrambler.before_a_start();
     scrambler.at_the_limits();
     for plan in plans {
@@ -51,7 +55,7 @@ pub fn scrambled(plans: &[Plan], refused: Vec<StartCall>) -> Vec<Call> {
     while scrambler.refuse_start() {
         scrambler.push(Call::Next);
     }
-    scrambler.calls
+    scrambler.made
 }
 
 /// A readable answer of so many octets and as many records as one may have: one
@@ -77,18 +81,34 @@ fn full_record(text: &[u8], octets: usize) -> Vec<u8> {
 struct Scrambler {
     random: Random,
     book: Book,
-    calls: Vec<Call>,
+    made: Vec<Made>,
     /// The refused starts that were not made yet.
     refused: Vec<StartCall>,
     /// The name that was answered last.
     last: Vec<u8>,
+    /// Names that were asked once, of this message and of others.
+    old_names: Vec<Vec<u8>>,
+    /// How often something comes in between, in percent.
+    often: usize,
 }
 
 impl Scrambler {
+    fn new(random: Random, refused: Vec<StartCall>) -> Scrambler {
+        Scrambler {
+            random,
+            book: Book::default(),
+            made: Vec::new(),
+            refused,
+            last: b"_dmarc.example.com".to_vec(),
+            old_names: Vec::new(),
+            often: OFTEN,
+        }
+    }
+
     /// Makes a call.
     fn push(&mut self, call: Call) {
-        call.line(&mut self.book);
-        self.calls.push(call);
+        let line = call.line(&mut self.book);
+        self.made.push((call, line));
     }
 
     fn push_answer(&mut self, name: &[u8], status: Status, bytes: &[u8], scratch: u16) {
@@ -169,11 +189,11 @@ impl Scrambler {
         self.after_the_verdict();
     }
 
-    /// How often something comes in between, in percent.
+    /// How often something comes in between now, in percent.
     fn rate(&self) -> usize {
         match self.book.names().len() > MANY_NAMES {
-            true => 5,
-            false => 45,
+            true => self.often.min(SELDOM),
+            false => self.often,
         }
     }
 
@@ -210,8 +230,12 @@ impl Scrambler {
         self.push_answer(&name, status, bytes, scratch);
     }
 
-    /// A name that is near the one now asked, or near the next one if none is.
+    /// An old name, or one that is near the one now asked, or near the next one if
+    /// none is.
     fn wrong_name(&mut self) -> Vec<u8> {
+        if let Some(name) = self.old_name() {
+            return name;
+        }
         let Some(asked) = self.book.now_asked() else {
             let next = self.book.names().pop();
             return next.map_or(self.last.clone(), |next| next.name);

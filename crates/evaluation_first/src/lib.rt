@@ -1,0 +1,26 @@
+// Where the next step is.
+ghost use mathlib.Core.Path.{_≡_};
+ghost use mathlib.Core.Bool.{true};
+ghost use Rattle.evaluation_first.specs.code.Pointing.{Points};
+use evaluation::Evaluation;
+use verdict_cursor::Position;
+
+// A started evaluation at its next step, with the name asked that it lacks there: where it stands, or where it begins.
+pub fn point(e: Evaluation) -> Evaluation
+    ensures { λ r. ⌜ (e .started ≡ true → Points e r) ⌝ }
+{
+    let mut after = e;
+    after.asked = true;
+    if e.handed {
+        return after;
+    }
+    let terms = e.terms;
+    let mut stored = e.stored;
+    let place = verdict_advance::begin(&e.domains, &e.numbers, &e.kept, 0, terms, &mut stored);
+    after.handed = true;
+    after.count = 0;
+    after.stored = stored;
+    let position = Position { place };
+    after.position = position;
+    after
+}

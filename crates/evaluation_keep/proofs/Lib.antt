@@ -1,0 +1,2 @@
+-- Laws of an answer.
+pub mod AnswerLaws

@@ -1,0 +1,111 @@
+// The name that an answer is for, and the reply kept.
+ghost use mathlib.Core.Path.{_≡_};
+ghost use mathlib.Core.List.{List, [], _∷_, _++_};
+ghost use mathlib.Core.Bool.{_&&_};
+ghost use Prim.Native.Nat.{ℕ, _+_, _≤_, _<_};
+ghost use lib.Dec.{ltb};
+ghost use lib.ListN.{length, drop, set};
+ghost use Rattle.domain.specs.Domain.{asked-name};
+ghost use Rattle.walk_known.specs.code.Kept.{kept-answers};
+ghost use Rattle.alignment_stored.specs.code.Stored.{slot};
+ghost use Rattle.verdict_judgement.specs.code.Judging.{stored-message};
+ghost use Rattle.verdict_cursor.specs.code.Cursor.{stands, needed};
+ghost use Rattle.verdict_cursor.specs.code.Standing.{cursor-in};
+ghost use Rattle.verdict_ahead.specs.code.Waits.{waiting-name};
+ghost use Rattle.evaluation.specs.code.View.{begin-of-slot};
+ghost use Rattle.evaluation_keep.specs.code.Asking.{answered};
+use domain::Octet;
+use txt::Reply;
+use verdict_ahead::Waiting;
+use verdict_cursor::Place;
+use verdict_judgement::Terms;
+
+// The most names that one message can need: eight for each walk.
+const MOST_NAMES: usize = 136;
+
+// Whether an answer is waited for, and there is room for it.
+pub fn is_live(started: bool, handed: bool, asked: bool, count: usize) -> bool
+    ensures { λ r. ⌜ r ≡ (started && (handed && (asked && ltb count 136))) ⌝ }
+{
+    if !started {
+        return false;
+    }
+    if !handed {
+        return false;
+    }
+    if !asked {
+        return false;
+    }
+    count < MOST_NAMES
+}
+
+// What an answer is for that is given by this name, with a final dot or without.
+pub fn find_asked<'a>(
+    domains: &'a [u8],
+    numbers: &'a [u16],
+    t: Terms,
+    p: Place,
+    live: bool,
+    name: &'a [u8],
+) -> Waiting
+    ensures { λ r. ⌜ ((stored : List ℕ) → waiting-name (now (domains .entry)) (now (numbers .entry)) r ≡ answered live (now (name .entry)) (needed (stands (stored-message (now (domains .entry)) (now (numbers .entry)) t) (cursor-in (now (domains .entry)) (now (numbers .entry)) t stored p)))) ⌝ }
+{
+    if !live {
+        return Waiting::Nothing;
+    }
+    let target = verdict_ahead::find_target(t, p);
+    match target {
+        Waiting::Nothing => Waiting::Nothing,
+        Waiting::For { walk, place } => {
+            let d = alignment_stored::slot(domains, numbers, walk);
+            let given = domain_taken::without_dot(name);
+            if !domain_names::is_name(given, d, place) {
+                return Waiting::Nothing;
+            }
+            Waiting::For { walk, place }
+        }
+    }
+}
+
+// Where a walk's domain begins among the stored domains.
+fn slot_begin(walk: usize) -> usize
+    ensures { λ r. ⌜ r ≡ begin-of-slot walk ⌝ }
+{
+    if 16 < walk {
+        return 0;
+    }
+    253 * walk
+}
+
+// Three numbers, from a place on.
+fn put(kept: &mut [u16], at: usize, from: u16, end: u16, code: u16)
+    requires { ⌜ at + 3 ≤ length (now kept) ⌝ }
+    ensures { λ _. ⌜ now (kept .exit) ≡ set (set (set (now (kept .entry)) at from) (at + 1) end) (at + 2) code ⌝ }
+{
+    kept[at] = from;
+    kept[at + 1] = end;
+    kept[at + 2] = code;
+}
+
+// One reply more is kept, where there is room: of the target that begins at a place of a walk's domain.
+pub fn keep_reply<'a>(
+    domains: &'a [u8],
+    numbers: &'a [u16],
+    walk: usize,
+    place: Octet,
+    r: Reply,
+    count: usize,
+    kept: &mut [u16; 408],
+)
+    ensures { λ _. ⌜ (count < 136 → (kept-answers (now (domains .entry)) (count + 1) (now (kept .exit)) ≡ kept-answers (now (domains .entry)) count (now (kept .entry)) ++ ((asked-name (drop (place .0) (slot (now (domains .entry)) (now (numbers .entry)) walk)), r) ∷ [])) × (length (now (kept .exit)) ≡ 408)) ⌝ }
+{
+    if MOST_NAMES <= count {
+        return;
+    }
+    let size = alignment_stored::slot(domains, numbers, walk).len();
+    let begin = slot_begin(walk);
+    let from = begin + text_parts::smaller(place.0, size);
+    let code = txt_codes::encode(r);
+    let end = begin + size;
+    put(kept, 3 * count, from as u16, end as u16, code as u16);
+}

@@ -1,0 +1,2 @@
+-- What only code needs: contracts and proofs of code cite these definitions.
+pub mod Following

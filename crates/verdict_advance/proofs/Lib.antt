@@ -1,0 +1,2 @@
+-- Laws of an evaluation that moves on.
+mod AdvanceLaws

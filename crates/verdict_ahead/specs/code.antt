@@ -1,0 +1,2 @@
+-- What an evaluation waits for, as code says it.
+pub mod Waits

@@ -1,0 +1,2 @@
+-- Laws of the author's walk, stored.
+mod AuthorLaws

@@ -1,0 +1,22 @@
+-- `verdict_author::compare_all` meets its contract.
+use native.Mathlib.Omega.{arith}
+use borrow.Author.Needs.{needs}
+use Rattle.walk_known.specs.code.Kept.{kept-answers}
+use Rattle.verdict_author.proofs.AuthorLaws.{compares-all}
+use Rattle.verdict_author.proofs.compare_all.Statement.{statement}
+use Rattle.verdict_author.proofs.compare_all.Tie as tie
+
+store-requires : tie.Need-store-requires
+store-requires c κs = search needs
+
+compare-requires : tie.Need-compare-requires
+compare-requires c κs = search needs
+
+returns : tie.Need-returns
+returns c =
+    let s = c .before .before in
+    let a = s .before .before .before .before .before .args in
+    compares-all (a .domains .now) (a .numbers .now) (a .t) (kept-answers (a .domains .now) (a .count) (a .kept .now)) _ (c .compare .result) _ (a .ruling) (a .w) (s .store .ensures) (c .compare .ensures (omega arith) (omega arith))
+
+pub compare-all-spec : {M : Type 1} → statement M
+compare-all-spec = tie.close (tie.spec store-requires compare-requires returns)

@@ -1,0 +1,2 @@
+-- What code promises that stores the author's walk.
+pub mod code

@@ -1,0 +1,2 @@
+-- What comparing promises.
+pub mod code

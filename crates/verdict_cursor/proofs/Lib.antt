@@ -1,0 +1,4 @@
+-- Laws of where an evaluation stands.
+pub mod StageLaws
+pub mod CursorLaws
+pub mod PassedLaws

@@ -1,0 +1,2 @@
+-- Where an evaluation stands between calls.
+pub mod code

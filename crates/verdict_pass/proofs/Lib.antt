@@ -1,0 +1,2 @@
+-- Laws of one identifier.
+pub mod PassingLaws

@@ -1,0 +1,2 @@
+-- What comparing makes of one identifier.
+pub mod code

@@ -1,0 +1,2 @@
+-- What code keeps of a walk.
+pub mod code

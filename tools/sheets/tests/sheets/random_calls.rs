@@ -1,0 +1,162 @@
+//! The calls of random messages: that they are those of their seed, and what
+//! they reach.
+
+use std::collections::BTreeSet;
+
+use crate::calls::{check_endings, check_lent};
+use crate::program::output;
+use crate::stored::{cases, Case as Call};
+use sheets::programs::calls::random_files;
+
+const MESSAGES: u64 = 600;
+const SEED: u64 = 41;
+
+fn calls() -> Vec<Call> {
+    cases(random_files(MESSAGES, SEED))
+}
+
+#[test]
+fn the_same_seed_gives_the_same_files() {
+    let first = random_files(40, 3);
+    assert!(first == random_files(40, 3));
+    assert!(first != random_files(40, 4));
+    // Fewer messages of a seed are the first of more.
+    let (first, fewer) = (first.expect("files"), random_files(20, 3).expect("files"));
+    assert!(first.cases.starts_with(&fewer.cases));
+    assert!(first.expected.starts_with(&fewer.expected));
+}
+
+#[test]
+fn every_ending_of_every_call() {
+    let least = [
+        ("answer 10", 200),
+        ("answer 5", 200),
+        ("answer 6", 200),
+        ("answer accepted", 2000),
+        ("field 10", 100),
+        ("field 7", 200),
+        ("field 9", 200),
+        ("field wrote", 100),
+        ("finding 7", 100),
+        ("finding result=0", 20),
+        ("finding result=1", 100),
+        ("finding result=2", 50),
+        ("finding result=3", 50),
+        ("finding result=4", 20),
+        ("next 7", 3),
+        ("next ask", 2000),
+        ("next verdict", 400),
+        ("result 7", 100),
+        ("result verdict", 200),
+        ("start 1", 50),
+        ("start 2", 50),
+        ("start 3", 50),
+        ("start 4", 50),
+        ("start accepted", 400),
+    ];
+    check_endings(&calls(), &least);
+}
+
+#[test]
+fn verdicts_of_each_result_by_both_calls() {
+    let calls = calls();
+    for result in ["none", "pass", "fail", "temperror", "permerror"] {
+        for call in ["next", "result"] {
+            let begin = format!("{call} verdict {result} ");
+            let found = calls.iter().filter(|call| call.2.starts_with(&begin));
+            assert!(found.count() >= 20, "{begin}");
+        }
+    }
+}
+
+#[test]
+fn lent_memory() {
+    check_lent(&calls());
+}
+
+/// A message that was started: the names it asked, and its verdict's count.
+#[derive(Default)]
+struct Run<'a> {
+    names: Vec<&'a str>,
+    count: Option<usize>,
+}
+
+/// The runs in order. Each name is asked once, and given again only before its
+/// answer; a verdict's count is the number of names.
+fn runs(calls: &[Call]) -> Vec<Run<'_>> {
+    let mut runs: Vec<Run> = Vec::new();
+    for (_, _, line) in calls {
+        if line == "start accepted" {
+            runs.push(Run::default());
+        }
+        let Some(run) = runs.last_mut() else {
+            continue;
+        };
+        if let Some(name) = line.strip_prefix("next ask ") {
+            assert_eq!(run.count, None, "a name after the verdict");
+            if run.names.last() != Some(&name) {
+                assert!(!run.names.contains(&name), "{name} twice");
+                run.names.push(name);
+            }
+        }
+        if let Some((_, count)) = line.split_once(" count=") {
+            run.count = count.parse().ok();
+            assert_eq!(run.count, Some(run.names.len()), "{line}");
+        }
+    }
+    runs
+}
+
+#[test]
+fn most_messages_come_to_their_verdict() {
+    let calls = calls();
+    let runs = runs(&calls);
+    let ended = runs.iter().filter(|run| run.count.is_some()).count();
+    assert!(ended * 10 >= runs.len() * 7, "{ended} of {}", runs.len());
+    assert!(runs.len() - ended >= 30, "{ended} of {}", runs.len());
+}
+
+#[test]
+fn verdicts_of_few_names_and_of_many() {
+    let calls = calls();
+    let counts: BTreeSet<usize> = runs(&calls).iter().filter_map(|run| run.count).collect();
+    assert!((1..=20).all(|count| counts.contains(&count)), "{counts:?}");
+    assert!(counts.last() > Some(&80), "{counts:?}");
+}
+
+/// What a new start does to the name that was asked before it.
+#[test]
+fn answers_of_the_last_message() {
+    let calls = calls();
+    let (mut asked, mut late) = (None, 0);
+    for pair in calls.windows(2) {
+        let [(_, _, before), (kind, body, line)] = pair else {
+            continue;
+        };
+        if let Some(name) = before.strip_prefix("next ask ") {
+            asked = Some(name);
+        }
+        if *kind == b'A' && before == "start accepted" {
+            assert!(line.starts_with("answer refused 5 at 0 "), "{line}");
+            let name = &body[4..4 + usize::from(body[3])];
+            let own = asked.is_some_and(|asked| asked.as_bytes().eq_ignore_ascii_case(name));
+            late += usize::from(own);
+        }
+    }
+    assert!(late > 0);
+}
+
+#[test]
+fn the_files_that_the_command_writes() {
+    let dir = std::env::temp_dir().join(format!("dmarc-tools-calls-{}", std::process::id()));
+    let path = dir.to_str().expect("a path in UTF-8");
+    let program = env!("CARGO_BIN_EXE_dmarc-tools");
+    let written = output(program, &["calls", path, "5", "8"], b"");
+    assert_eq!(written.status.code(), Some(0));
+    let stored = |name: &str| std::fs::read(dir.join(name)).expect("a written file");
+    let files = random_files(5, 8).expect("files");
+    assert!(stored("stdin") == files.cases && stored("stdout") == files.expected);
+    std::fs::remove_dir_all(&dir).expect("the files go away");
+    let refused = output(program, &["calls", path, "many", "8"], b"");
+    assert_eq!(refused.stderr, b"COUNT is a number\n");
+}
