@@ -4,7 +4,6 @@ ghost use Rattle.evaluation_keep.specs.code.Accepting.{Accepts};
 use domain::Octet;
 use evaluation::Evaluation;
 use txt::Reply;
-use verdict_cursor::Position;
 
 // The most names that one message can need: eight for each walk.
 const MOST_NAMES: usize = 136;
@@ -20,8 +19,7 @@ pub fn accept(e: Evaluation, walk: usize, place: Octet, r: Reply) -> Evaluation
     evaluation_keep::keep_reply(&e.domains, &e.numbers, walk, place, r, e.count, &mut kept);
     let count = e.count + 1;
     let terms = e.terms;
-    let position = e.position;
-    let stood = position.place;
+    let stood = e.position;
     let mut stored = e.stored;
     let stands = verdict_advance::advance(
         &e.domains,
@@ -38,7 +36,6 @@ pub fn accept(e: Evaluation, walk: usize, place: Octet, r: Reply) -> Evaluation
     after.kept = kept;
     after.count = count;
     after.stored = stored;
-    let moved = Position { place: stands };
-    after.position = moved;
+    after.position = stands;
     after
 }

@@ -21,8 +21,7 @@ pub fn answer(
     let live = evaluation_keep::is_live(e.started, e.handed, e.asked, e.count);
     let terms = e.terms;
     let position = e.position;
-    let stands = position.place;
-    match evaluation_keep::find_asked(&e.domains, &e.numbers, terms, stands, live, name) {
+    match evaluation_keep::find_asked(&e.domains, &e.numbers, terms, position, live, name) {
         Waiting::Nothing => evaluation_state::refused(e, 5, 0),
         Waiting::For { walk, place } => match txt_take::take_answer(status, bytes, scratch) {
             Taken::Refused(f) => evaluation_state::refused(e, f.number, f.place),

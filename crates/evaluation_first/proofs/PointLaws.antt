@@ -10,9 +10,10 @@ use Rattle.walk_known.specs.code.Kept.{kept-answers}
 use Rattle.verdict_judgement.specs.declared.Judgement.{Judgement}
 use Rattle.verdict_judgement.specs.declared.Judged.{Judged}
 use Rattle.verdict_judgement.specs.code.Judging.{judged-standing}
-use Rattle.verdict_cursor.specs.declared.Place.{Place}
+use Rattle.verdict_cursor.specs.declared.Position.{Position}
 use Rattle.verdict_cursor.specs.code.Cursor.{stands, needed}
 use Rattle.verdict_cursor.specs.code.Standing.{Begins}
+use Rattle.verdict_cursor.specs.code.Positions.{place-in}
 use Rattle.book.specs.Book.{next, given}
 use Rattle.evaluation.specs.declared.Evaluation.{Evaluation}
 use Rattle.evaluation.specs.declared.Step.{Step}
@@ -29,10 +30,10 @@ module _ (e : Evaluation) (s : e .started ≡ true) where
   points-on h = record { started = s; handed = h; asked = refl; domains = refl; numbers = refl; terms = refl; kept = refl; replies = rw (s, h); cursor = rw (s, h) }
 
   -- where it begins
-  pub points-first : (stored : List ℕ) (place : Place) → e .handed ≡ false → Begins (e .domains) (e .numbers) (e .terms) [] stored place
-      → Points e (record { started = e .started; handed = true; asked = true; domains = e .domains; numbers = e .numbers; terms = e .terms; kept = e .kept; count = 0; stored = stored; position = record { place = place } })
+  pub points-first : (stored : List ℕ) (at : Position) → e .handed ≡ false → Begins (e .domains) (e .numbers) (e .terms) [] stored (place-in at)
+      → Points e (record { started = e .started; handed = true; asked = true; domains = e .domains; numbers = e .numbers; terms = e .terms; kept = e .kept; count = 0; stored = stored; position = at })
   unfolding view view-by keeps-opened point replies-now cursor-now message-now kept-answers
-  points-first stored place h b = record { started = s; handed = refl; asked = refl; domains = refl; numbers = refl; terms = refl; kept = refl; replies = rw (s, h); cursor = rw (s, h) b }
+  points-first stored at h b = record { started = s; handed = refl; asked = refl; domains = refl; numbers = refl; terms = refl; kept = refl; replies = rw (s, h); cursor = rw (s, h) b }
 
   module _ (a : Evaluation) (p : Points e a) where
     pub same-message : message-now a ≡ message-now e

@@ -3,7 +3,6 @@ ghost use mathlib.Core.Path.{_≡_};
 ghost use mathlib.Core.Bool.{true};
 ghost use Rattle.evaluation_first.specs.code.Pointing.{Points};
 use evaluation::Evaluation;
-use verdict_cursor::Position;
 
 // A started evaluation at its next step, with the name asked that it lacks there: where it stands, or where it begins.
 pub fn point(e: Evaluation) -> Evaluation
@@ -16,11 +15,10 @@ pub fn point(e: Evaluation) -> Evaluation
     }
     let terms = e.terms;
     let mut stored = e.stored;
-    let place = verdict_advance::begin(&e.domains, &e.numbers, &e.kept, 0, terms, &mut stored);
+    let position = verdict_advance::begin(&e.domains, &e.numbers, &e.kept, 0, terms, &mut stored);
     after.handed = true;
     after.count = 0;
     after.stored = stored;
-    let position = Position { place };
     after.position = position;
     after
 }

@@ -22,9 +22,10 @@ use Rattle.txt.specs.Answers.{Answer, answer-of}
 use Rattle.txt.specs.Taking.{taken, left-after, Takes}
 use Rattle.walk_known.specs.code.Kept.{kept-answers}
 use Rattle.alignment_stored.specs.code.Stored.{slot}
-use Rattle.verdict_cursor.specs.declared.Place.{Place}
+use Rattle.verdict_cursor.specs.declared.Position.{Position}
 use Rattle.verdict_cursor.specs.code.Cursor.{stands, needed}
 use Rattle.verdict_cursor.specs.code.Standing.{Moves}
+use Rattle.verdict_cursor.specs.code.Positions.{place-in}
 use Rattle.book.specs.Book.{answer, given, refused}
 use Rattle.evaluation.specs.declared.Evaluation.{Evaluation}
 use Rattle.evaluation.specs.declared.Acceptance.{Acceptance}
@@ -172,9 +173,9 @@ module _ (e : Evaluation) where
 
 -- ------------------------------------------------------------------ the reply kept, and where it stands moved on
 
-pub accepts-moved : (e : Evaluation) (walk : ℕ) (place : Octet) (r : Reply) (kept stored : List ℕ) (stands : Place)
+pub accepts-moved : (e : Evaluation) (walk : ℕ) (place : Octet) (r : Reply) (kept stored : List ℕ) (stands : Position)
     → kept-answers (e .domains) (e .count + 1) kept ≡ kept-answers (e .domains) (e .count) (e .kept) ++ ((asked-name (drop (place .0) (slot (e .domains) (e .numbers) walk)), r) ∷ [])
-    → Moves (e .domains) (e .numbers) (e .terms) (kept-answers (e .domains) (e .count + 1) kept) (e .stored) (e .position .place) r stored stands
-    → Accepts e walk place r (record { started = e .started; handed = e .handed; asked = false; domains = e .domains; numbers = e .numbers; terms = e .terms; kept = kept; count = e .count + 1; stored = stored; position = record { place = stands } })
+    → Moves (e .domains) (e .numbers) (e .terms) (kept-answers (e .domains) (e .count + 1) kept) (e .stored) (place-in (e .position)) r stored (place-in stands)
+    → Accepts e walk place r (record { started = e .started; handed = e .handed; asked = false; domains = e .domains; numbers = e .numbers; terms = e .terms; kept = kept; count = e .count + 1; stored = stored; position = stands })
 unfolding message-now replies-now cursor-now marked
 accepts-moved e walk place r kept stored stands more moves = record { started = refl; handed = refl; asked = refl; domains = refl; numbers = refl; terms = refl; replies = more; cursor = moves }

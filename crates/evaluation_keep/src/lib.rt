@@ -11,13 +11,14 @@ ghost use Rattle.alignment_stored.specs.code.Stored.{slot};
 ghost use Rattle.verdict_judgement.specs.code.Judging.{stored-message};
 ghost use Rattle.verdict_cursor.specs.code.Cursor.{stands, needed};
 ghost use Rattle.verdict_cursor.specs.code.Standing.{cursor-in};
+ghost use Rattle.verdict_cursor.specs.code.Positions.{place-in};
 ghost use Rattle.verdict_ahead.specs.code.Waits.{waiting-name};
 ghost use Rattle.evaluation.specs.code.View.{begin-of-slot};
 ghost use Rattle.evaluation_keep.specs.code.Asking.{answered};
 use domain::Octet;
 use txt::Reply;
 use verdict_ahead::Waiting;
-use verdict_cursor::Place;
+use verdict_cursor::Position;
 use verdict_judgement::Terms;
 
 // The most names that one message can need: eight for each walk.
@@ -44,16 +45,16 @@ pub fn find_asked<'a>(
     domains: &'a [u8],
     numbers: &'a [u16],
     t: Terms,
-    p: Place,
+    at: Position,
     live: bool,
     name: &'a [u8],
 ) -> Waiting
-    ensures { λ r. ⌜ ((stored : List ℕ) → waiting-name (now (domains .entry)) (now (numbers .entry)) r ≡ answered live (now (name .entry)) (needed (stands (stored-message (now (domains .entry)) (now (numbers .entry)) t) (cursor-in (now (domains .entry)) (now (numbers .entry)) t stored p)))) ⌝ }
+    ensures { λ r. ⌜ ((stored : List ℕ) → waiting-name (now (domains .entry)) (now (numbers .entry)) r ≡ answered live (now (name .entry)) (needed (stands (stored-message (now (domains .entry)) (now (numbers .entry)) t) (cursor-in (now (domains .entry)) (now (numbers .entry)) t stored (place-in at))))) ⌝ }
 {
     if !live {
         return Waiting::Nothing;
     }
-    let target = verdict_ahead::find_target(t, p);
+    let target = verdict_ahead::find_target(t, at);
     match target {
         Waiting::Nothing => Waiting::Nothing,
         Waiting::For { walk, place } => {

@@ -29,8 +29,7 @@ pub fn result(e: Evaluation) -> Resulting
     }
     let terms = e.terms;
     let position = e.position;
-    let place = position.place;
-    match verdict_conclude::judge(&e.domains, &e.numbers, &e.stored, terms, place) {
+    match verdict_conclude::judge(&e.domains, &e.numbers, &e.stored, terms, position) {
         Judged::Missing { walk: _, place: _ } => Resulting::Refused(evaluation_state::refuse(7, 0)),
         Judged::Done(judgement) => {
             let count = count_answers(e.count);

@@ -6,14 +6,18 @@ ghost use Rattle.octets.specs.Lent.{Writes};
 ghost use Rattle.octets.specs.Refusing.{refusal};
 ghost use Rattle.alignment_stored.specs.code.Stored.{slot};
 ghost use Rattle.evaluation.specs.code.View.{blank, marked};
+use domain::Labels;
 use domain::Octet;
+use domain_labels::Target;
 use evaluation::Acceptance;
 use evaluation::Changed;
 use evaluation::Evaluation;
 use octets::Refusal;
 use octets::Written;
 use verdict::Existence;
-use verdict_cursor::Place;
+use verdict_cursor::KeptRuling;
+use verdict_cursor::KeptStop;
+use verdict_cursor::PlaceKind;
 use verdict_cursor::Position;
 use verdict_judgement::Terms;
 
@@ -36,7 +40,23 @@ pub fn empty() -> Evaluation
         count: 0,
         stored: [0; 17],
         position: Position {
-            place: Place::OwnName,
+            kind: PlaceKind::OwnName,
+            ruling: KeptRuling {
+                begin: Octet(0),
+                settings: 0,
+                policy: 0,
+            },
+            walk: 0,
+            stop: KeptStop {
+                found: false,
+                begin: Octet(0),
+                settings: 0,
+                target: Target {
+                    begin: Octet(0),
+                    wider: Octet(0),
+                },
+                more: Labels(0),
+            },
         },
     }
 }

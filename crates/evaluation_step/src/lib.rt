@@ -19,8 +19,7 @@ pub fn next(e: Evaluation) -> Stepped
     let at = evaluation_first::point(e);
     let terms = at.terms;
     let position = at.position;
-    let stands = position.place;
-    match verdict_conclude::judge(&at.domains, &at.numbers, &at.stored, terms, stands) {
+    match verdict_conclude::judge(&at.domains, &at.numbers, &at.stored, terms, position) {
         Judged::Missing { walk, place } => Stepped {
             evaluation: at,
             step: Step::Ask { walk, place },

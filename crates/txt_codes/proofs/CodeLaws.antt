@@ -81,7 +81,7 @@ module _ (s : Settings) where
     flag-small (s .reports),
   )
 
-  settings-back : settings-of (settings-code s) ≡ s
+  pub settings-back : settings-of (settings-code s) ≡ s
   unfolding settings-of
   settings-back =
       let d = settings-digits in

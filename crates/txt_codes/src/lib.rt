@@ -56,7 +56,7 @@ fn encode_flag(x: bool) -> usize
 }
 
 // What a record sets, as digits of mixed base.
-fn encode_settings(s: Settings) -> usize
+pub fn encode_settings(s: Settings) -> usize
     ensures { λ n. ⌜ (n ≡ settings-code s) × (n < 6000) ⌝ }
 {
     let p = s.p;
@@ -121,7 +121,7 @@ fn decode_psd(n: usize) -> Psd
 }
 
 // What a record sets, of its digits.
-fn decode_settings(n: usize) -> Settings
+pub fn decode_settings(n: usize) -> Settings
     ensures { λ r. ⌜ r ≡ settings-of n ⌝ }
 {
     Settings {

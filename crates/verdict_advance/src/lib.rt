@@ -1,9 +1,11 @@
 // An evaluation from its beginning, and from where it stands with the answer that it waited for.
 ghost use Rattle.walk_known.specs.code.Kept.{kept-answers};
 ghost use Rattle.verdict_cursor.specs.code.Standing.{Begins, Moves};
+ghost use Rattle.verdict_cursor.specs.code.Positions.{place-in};
 use domain::Octet;
 use txt::Reply;
 use verdict_cursor::Place;
+use verdict_cursor::Position;
 use verdict_cursor::Ruling;
 use verdict_judgement::Terms;
 use walk_known::Looked;
@@ -17,12 +19,12 @@ pub fn begin<'a>(
     count: usize,
     t: Terms,
     stored: &mut [u16; 17],
-) -> Place
-    ensures { λ p. ⌜ Begins (now (domains .entry)) (now (numbers .entry)) t (kept-answers (now (domains .entry)) count (now (kept .entry))) (now (stored .exit)) p ⌝ }
+) -> Position
+    ensures { λ at. ⌜ Begins (now (domains .entry)) (now (numbers .entry)) t (kept-answers (now (domains .entry)) count (now (kept .entry))) (now (stored .exit)) (place-in at) ⌝ }
 {
     let author = alignment_stored::slot(domains, numbers, 0);
     match walk_known::look_at(domains, kept, count, author, Octet(0)) {
-        Looked::Missing => Place::OwnName,
+        Looked::Missing => verdict_place::own_name(),
         Looked::Known(r) => verdict_own::own(domains, numbers, kept, count, t, r, stored),
     }
 }
@@ -39,14 +41,14 @@ fn advance_identifier<'a>(
     stop: Stop,
     r: Reply,
     stored: &mut [u16; 17],
-) -> Place
-    ensures { λ q. ⌜ Moves (now (domains .entry)) (now (numbers .entry)) t (kept-answers (now (domains .entry)) count (now (kept .entry))) (now (stored .entry)) (Place.Identifier ruling walk stop) r (now (stored .exit)) q ⌝ }
+) -> Position
+    ensures { λ at. ⌜ Moves (now (domains .entry)) (now (numbers .entry)) t (kept-answers (now (domains .entry)) count (now (kept .entry))) (now (stored .entry)) (Place.Identifier ruling walk stop) r (now (stored .exit)) (place-in at) ⌝ }
 {
     if walk < 1 {
-        return Place::Identifier { ruling, walk, stop };
+        return verdict_place::identifier(ruling, walk, stop);
     }
     if text_parts::smaller(t.identifiers, 16) < walk {
-        return Place::Identifier { ruling, walk, stop };
+        return verdict_place::identifier(ruling, walk, stop);
     }
     let d = alignment_stored::slot(domains, numbers, walk);
     let w = walk_reach::reach_after(domains, kept, count, d, stop, r);
@@ -60,13 +62,14 @@ pub fn advance<'a>(
     kept: &'a [u16],
     count: usize,
     t: Terms,
-    p: Place,
+    from: Position,
     r: Reply,
     stored: &mut [u16; 17],
-) -> Place
-    ensures { λ q. ⌜ Moves (now (domains .entry)) (now (numbers .entry)) t (kept-answers (now (domains .entry)) count (now (kept .entry))) (now (stored .entry)) p r (now (stored .exit)) q ⌝ }
+) -> Position
+    ensures { λ at. ⌜ Moves (now (domains .entry)) (now (numbers .entry)) t (kept-answers (now (domains .entry)) count (now (kept .entry))) (now (stored .entry)) (place-in from) r (now (stored .exit)) (place-in at) ⌝ }
 {
     let author = alignment_stored::slot(domains, numbers, 0);
+    let p = verdict_place::read(from);
     match p {
         Place::OwnName => verdict_own::own(domains, numbers, kept, count, t, r, stored),
         Place::Author(stop) => {
@@ -91,6 +94,6 @@ pub fn advance<'a>(
                 stored,
             )
         }
-        _ => p,
+        _ => from,
     }
 }

@@ -3,12 +3,14 @@ ghost use mathlib.Core.Path.{_≡_};
 ghost use mathlib.Core.Bool.{_&&_};
 ghost use Prim.Native.Nat.{min};
 ghost use lib.Dec.{leb};
+ghost use Rattle.verdict_cursor.specs.code.Positions.{place-in};
 ghost use Rattle.verdict_ahead.specs.code.Waits.{Looks, Waits};
 use domain::Octet;
 use policy::Policy;
 use verdict::AppliedPolicy;
 use verdict::Result;
 use verdict_cursor::Place;
+use verdict_cursor::Position;
 use verdict_cursor::Ruling;
 use verdict_judgement::Terms;
 use walk_progress::Stop;
@@ -64,7 +66,7 @@ fn look_unjudged(begin: Octet, result: Result) -> Ahead
 }
 
 // What is ahead of an evaluation, by its place. Octet 253 is no domain's, so it marks the end of any.
-pub fn look_ahead(t: Terms, p: Place) -> Ahead
+fn look_from(t: Terms, p: Place) -> Ahead
     ensures { λ r. ⌜ Looks t p r ⌝ }
 {
     match p {
@@ -100,11 +102,19 @@ pub fn look_ahead(t: Terms, p: Place) -> Ahead
     }
 }
 
-// What an evaluation waits for.
-pub fn find_target(t: Terms, p: Place) -> Waiting
-    ensures { λ r. ⌜ Waits t p r ⌝ }
+// What is ahead of an evaluation, by its place as it is kept.
+pub fn look_ahead(t: Terms, at: Position) -> Ahead
+    ensures { λ r. ⌜ Looks t (place-in at) r ⌝ }
 {
-    match look_ahead(t, p) {
+    let p = verdict_place::read(at);
+    look_from(t, p)
+}
+
+// What an evaluation waits for.
+pub fn find_target(t: Terms, at: Position) -> Waiting
+    ensures { λ r. ⌜ Waits t (place-in at) r ⌝ }
+{
+    match look_ahead(t, at) {
         Ahead::Target { walk, place } => Waiting::For { walk, place },
         Ahead::Unjudged {
             begin: _,

@@ -3,8 +3,9 @@ ghost use mathlib.Core.Path.{_≡_};
 ghost use Rattle.walk_known.specs.code.Kept.{kept-answers};
 ghost use Rattle.walk_progress.specs.code.Stops.{stored-of};
 ghost use Rattle.verdict_cursor.specs.code.Standing.{stored-at};
+ghost use Rattle.verdict_cursor.specs.code.Positions.{place-in};
 ghost use Rattle.verdict_author.specs.code.Author.{StoresAuthor, ComparesAll};
-use verdict_cursor::Place;
+use verdict_cursor::Position;
 use verdict_cursor::Ruling;
 use verdict_judgement::Terms;
 use walk_progress::Reach;
@@ -36,8 +37,8 @@ pub fn compare_all<'a>(
     ruling: Ruling,
     w: Reach,
     stored: &mut [u16; 17],
-) -> Place
-    ensures { λ p. ⌜ ComparesAll (now (domains .entry)) (now (numbers .entry)) t (kept-answers (now (domains .entry)) count (now (kept .entry))) ruling w (now (stored .exit)) p ⌝ }
+) -> Position
+    ensures { λ p. ⌜ ComparesAll (now (domains .entry)) (now (numbers .entry)) t (kept-answers (now (domains .entry)) count (now (kept .entry))) ruling w (now (stored .exit)) (place-in p) ⌝ }
 {
     store(domains, numbers, w, stored);
     verdict_compare::compare(domains, numbers, kept, count, t, ruling, 1, stored)

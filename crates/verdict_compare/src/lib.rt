@@ -4,8 +4,9 @@ ghost use Prim.Native.Nat.{_+_, _≤_, _<_};
 ghost use lib.ListN.{length, set};
 ghost use Rattle.walk_known.specs.code.Kept.{kept-answers};
 ghost use Rattle.verdict_cursor.specs.code.Standing.{given-count, ComparesFrom};
+ghost use Rattle.verdict_cursor.specs.code.Positions.{place-in};
 ghost use Rattle.verdict_compare.specs.code.Comparing.{ComparesAfter};
-use verdict_cursor::Place;
+use verdict_cursor::Position;
 use verdict_cursor::Ruling;
 use verdict_judgement::Terms;
 use verdict_pass::Passing;
@@ -29,8 +30,8 @@ pub fn compare<'a>(
     ruling: Ruling,
     from: usize,
     stored: &mut [u16; 17],
-) -> Place
-    ensures { λ p. ⌜ (1 ≤ from → from ≤ given-count (now (domains .entry)) (now (numbers .entry)) t + 1 → ComparesFrom (now (domains .entry)) (now (numbers .entry)) t (kept-answers (now (domains .entry)) count (now (kept .entry))) (now (stored .entry)) ruling from (now (stored .exit)) p) ⌝ }
+) -> Position
+    ensures { λ p. ⌜ (1 ≤ from → from ≤ given-count (now (domains .entry)) (now (numbers .entry)) t + 1 → ComparesFrom (now (domains .entry)) (now (numbers .entry)) t (kept-answers (now (domains .entry)) count (now (kept .entry))) (now (stored .entry)) ruling from (now (stored .exit)) (place-in p)) ⌝ }
 {
     let s = ruling.settings;
     let author = stored[0];
@@ -39,7 +40,7 @@ pub fn compare<'a>(
     while walk <= last {
         match verdict_pass::pass_at(domains, numbers, kept, count, s, author, walk) {
             Passing::Stops(stop) => {
-                return Place::Identifier { ruling, walk, stop };
+                return verdict_place::identifier(ruling, walk, stop);
             }
             Passing::Passes(number) => {
                 store(stored, walk, number);
@@ -47,7 +48,7 @@ pub fn compare<'a>(
         }
         walk = walk + 1;
     }
-    Place::Judged(ruling)
+    verdict_place::judged(ruling)
 }
 
 // The identifiers from a walk's on, whose own has come so far.
@@ -61,14 +62,14 @@ pub fn compare_after<'a>(
     walk: usize,
     w: Reach,
     stored: &mut [u16; 17],
-) -> Place
-    ensures { λ p. ⌜ (1 ≤ walk → walk ≤ given-count (now (domains .entry)) (now (numbers .entry)) t → ComparesAfter (now (domains .entry)) (now (numbers .entry)) t (kept-answers (now (domains .entry)) count (now (kept .entry))) (now (stored .entry)) ruling walk w (now (stored .exit)) p) ⌝ }
+) -> Position
+    ensures { λ p. ⌜ (1 ≤ walk → walk ≤ given-count (now (domains .entry)) (now (numbers .entry)) t → ComparesAfter (now (domains .entry)) (now (numbers .entry)) t (kept-answers (now (domains .entry)) count (now (kept .entry))) (now (stored .entry)) ruling walk w (now (stored .exit)) (place-in p)) ⌝ }
 {
     if 16 < walk {
-        return Place::Judged(ruling);
+        return verdict_place::judged(ruling);
     }
     match verdict_pass::pass(alignment_stored::slot(domains, numbers, walk), w) {
-        Passing::Stops(stop) => Place::Identifier { ruling, walk, stop },
+        Passing::Stops(stop) => verdict_place::identifier(ruling, walk, stop),
         Passing::Passes(number) => {
             store(stored, walk, number);
             compare(domains, numbers, kept, count, t, ruling, walk + 1, stored)

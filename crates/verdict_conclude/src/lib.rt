@@ -7,12 +7,13 @@ ghost use Rattle.verdict.specs.Verdict.{unjudged};
 ghost use Rattle.verdict_judgement.specs.code.Judging.{stored-message, tally-result, judgement, Concludes};
 ghost use Rattle.verdict_cursor.specs.code.Cursor.{stands};
 ghost use Rattle.verdict_cursor.specs.code.Standing.{verdict-by, cursor-in};
+ghost use Rattle.verdict_cursor.specs.code.Positions.{place-in};
 use alignment_settle::Tally;
 use domain::Octet;
 use verdict::AppliedPolicy;
 use verdict::Result;
 use verdict_ahead::Ahead;
-use verdict_cursor::Place;
+use verdict_cursor::Position;
 use verdict_cursor::Ruling;
 use verdict_judgement::Judged;
 use verdict_judgement::Judgement;
@@ -95,11 +96,11 @@ pub fn judge<'a>(
     numbers: &'a [u16],
     stored: &'a [u16],
     t: Terms,
-    p: Place,
+    at: Position,
 ) -> Judged
-    ensures { λ r. ⌜ Concludes (now (domains .entry)) (now (numbers .entry)) t (stands (stored-message (now (domains .entry)) (now (numbers .entry)) t) (cursor-in (now (domains .entry)) (now (numbers .entry)) t (now (stored .entry)) p)) r ⌝ }
+    ensures { λ r. ⌜ Concludes (now (domains .entry)) (now (numbers .entry)) t (stands (stored-message (now (domains .entry)) (now (numbers .entry)) t) (cursor-in (now (domains .entry)) (now (numbers .entry)) t (now (stored .entry)) (place-in at))) r ⌝ }
 {
-    match verdict_ahead::look_ahead(t, p) {
+    match verdict_ahead::look_ahead(t, at) {
         Ahead::Target { walk, place } => Judged::Missing { walk, place },
         Ahead::Unjudged {
             begin,

@@ -4,3 +4,4 @@ pub mod StageClaims
 pub mod Cursor
 pub mod CursorClaims
 pub mod Standing
+pub mod Positions

@@ -1,5 +1,7 @@
 // Where an evaluation stands between calls: definitions.
+use domain::Labels;
 use domain::Octet;
+use domain_labels::Target;
 use policy::Settings;
 use verdict::AppliedPolicy;
 use walk_progress::Stop;
@@ -32,7 +34,39 @@ pub enum Place {
     Judged(Ruling),
 }
 
-// A place as a field that code can write.
+// Which place it is.
+pub enum PlaceKind {
+    OwnName,
+    Author,
+    Completing,
+    Identifier,
+    NotKnown,
+    NoRecord,
+    NotUsable,
+    Judged,
+}
+
+// An applied record as it is kept, its settings and policy as numbers.
+pub struct KeptRuling {
+    pub begin: Octet,
+    pub settings: usize,
+    pub policy: usize,
+}
+
+// Where an open walk stops, as it is kept: whether a record was found so far, where that one's domain begins, its settings
+// as a number, the target that lacks an answer, and how many targets come after it.
+pub struct KeptStop {
+    pub found: bool,
+    pub begin: Octet,
+    pub settings: usize,
+    pub target: Target,
+    pub more: Labels,
+}
+
+// A place as an evaluation keeps it. What its kind of place does not have is not read.
 pub struct Position {
-    pub place: Place,
+    pub kind: PlaceKind,
+    pub ruling: KeptRuling,
+    pub walk: usize,
+    pub stop: KeptStop,
 }

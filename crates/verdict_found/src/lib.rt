@@ -1,10 +1,11 @@
 // The author's walk, and the record that it gives.
 ghost use Rattle.walk_known.specs.code.Kept.{kept-answers};
+ghost use Rattle.verdict_cursor.specs.code.Positions.{place-in};
 ghost use Rattle.verdict_found.specs.code.Found.{Completes, Judges, Finds};
 use domain::Octet;
 use force::InForce;
 use policy::Settings;
-use verdict_cursor::Place;
+use verdict_cursor::Position;
 use verdict_cursor::Ruling;
 use verdict_judgement::Terms;
 use walk_progress::Applicable;
@@ -21,11 +22,11 @@ pub fn complete<'a>(
     ruling: Ruling,
     w: Reach,
     stored: &mut [u16; 17],
-) -> Place
-    ensures { λ p. ⌜ Completes (now (domains .entry)) (now (numbers .entry)) t (kept-answers (now (domains .entry)) count (now (kept .entry))) ruling w (now (stored .exit)) p ⌝ }
+) -> Position
+    ensures { λ p. ⌜ Completes (now (domains .entry)) (now (numbers .entry)) t (kept-answers (now (domains .entry)) count (now (kept .entry))) ruling w (now (stored .exit)) (place-in p) ⌝ }
 {
     match w {
-        Reach::Stops(stop) => Place::Completing { ruling, stop },
+        Reach::Stops(stop) => verdict_place::completing(ruling, stop),
         _ => verdict_author::compare_all(domains, numbers, kept, count, t, ruling, w, stored),
     }
 }
@@ -41,14 +42,14 @@ fn judge<'a>(
     settings: Settings,
     o: Organization,
     stored: &mut [u16; 17],
-) -> Place
-    ensures { λ p. ⌜ Judges (now (domains .entry)) (now (numbers .entry)) t (kept-answers (now (domains .entry)) count (now (kept .entry))) begin settings o (now (stored .exit)) p ⌝ }
+) -> Position
+    ensures { λ p. ⌜ Judges (now (domains .entry)) (now (numbers .entry)) t (kept-answers (now (domains .entry)) count (now (kept .entry))) begin settings o (now (stored .exit)) (place-in p) ⌝ }
 {
     let existence = t.existence;
     match force_policies::in_force(settings) {
         InForce::NotUsable => {
             verdict_author::store(domains, numbers, Reach::Done(o), stored);
-            Place::NotUsable(begin)
+            verdict_place::not_usable(begin)
         }
         InForce::Usable(used) => {
             let policy = verdict_policies::find_policy(false, existence, used);
@@ -80,21 +81,21 @@ pub fn found<'a>(
     t: Terms,
     w: Reach,
     stored: &mut [u16; 17],
-) -> Place
-    ensures { λ p. ⌜ Finds (now (domains .entry)) (now (numbers .entry)) t (kept-answers (now (domains .entry)) count (now (kept .entry))) w (now (stored .exit)) p ⌝ }
+) -> Position
+    ensures { λ p. ⌜ Finds (now (domains .entry)) (now (numbers .entry)) t (kept-answers (now (domains .entry)) count (now (kept .entry))) w (now (stored .exit)) (place-in p) ⌝ }
 {
     match w {
-        Reach::Stops(stop) => Place::Author(stop),
+        Reach::Stops(stop) => verdict_place::author(stop),
         Reach::Failed => {
             verdict_author::put_number(1, stored);
-            Place::NotKnown
+            verdict_place::not_known()
         }
         Reach::Done(o) => {
             let applicable = o.applicable;
             match applicable {
                 Applicable::Nothing => {
                     verdict_author::store(domains, numbers, w, stored);
-                    Place::NoRecord
+                    verdict_place::no_record()
                 }
                 Applicable::Record { begin, settings } => {
                     judge(domains, numbers, kept, count, t, begin, settings, o, stored)

@@ -2,13 +2,14 @@
 ghost use mathlib.Core.Path.{_≡_};
 ghost use Rattle.walk_known.specs.code.Kept.{kept-answers};
 ghost use Rattle.walk_progress.specs.code.Stops.{reached-in};
+ghost use Rattle.verdict_cursor.specs.code.Positions.{place-in};
 ghost use Rattle.verdict_own.specs.code.Own.{halted-in, gone-in, JudgesOwn, Owns};
 use domain::Octet;
 use domain_labels::Target;
 use force::InForce;
 use policy::Settings;
 use txt::Reply;
-use verdict_cursor::Place;
+use verdict_cursor::Position;
 use verdict_cursor::Ruling;
 use verdict_judgement::Terms;
 use walk_progress::Applicable;
@@ -46,8 +47,8 @@ fn judge_own<'a>(
     settings: Settings,
     turned: Turned,
     stored: &mut [u16; 17],
-) -> Place
-    ensures { λ p. ⌜ JudgesOwn (now (domains .entry)) (now (numbers .entry)) t (kept-answers (now (domains .entry)) count (now (kept .entry))) settings turned (now (stored .exit)) p ⌝ }
+) -> Position
+    ensures { λ p. ⌜ JudgesOwn (now (domains .entry)) (now (numbers .entry)) t (kept-answers (now (domains .entry)) count (now (kept .entry))) settings turned (now (stored .exit)) (place-in p) ⌝ }
 {
     let author = alignment_stored::slot(domains, numbers, 0);
     let existence = t.existence;
@@ -75,8 +76,8 @@ fn apply_own<'a>(
     t: Terms,
     settings: Settings,
     stored: &mut [u16; 17],
-) -> Place
-    ensures { λ p. ⌜ Owns (now (domains .entry)) (now (numbers .entry)) t (kept-answers (now (domains .entry)) count (now (kept .entry))) (Reply.Record settings) (now (stored .exit)) p ⌝ }
+) -> Position
+    ensures { λ p. ⌜ Owns (now (domains .entry)) (now (numbers .entry)) t (kept-answers (now (domains .entry)) count (now (kept .entry))) (Reply.Record settings) (now (stored .exit)) (place-in p) ⌝ }
 {
     let author = alignment_stored::slot(domains, numbers, 0);
     let begin = Octet(0);
@@ -88,7 +89,7 @@ fn apply_own<'a>(
     match force_policies::in_force(settings) {
         InForce::NotUsable => {
             verdict_author::store(domains, numbers, halted(author, turned), stored);
-            Place::NotUsable(begin)
+            verdict_place::not_usable(begin)
         }
         InForce::Usable(used) => {
             judge_own(domains, numbers, kept, count, t, used, turned, stored)
@@ -105,13 +106,13 @@ pub fn own<'a>(
     t: Terms,
     r: Reply,
     stored: &mut [u16; 17],
-) -> Place
-    ensures { λ p. ⌜ Owns (now (domains .entry)) (now (numbers .entry)) t (kept-answers (now (domains .entry)) count (now (kept .entry))) r (now (stored .exit)) p ⌝ }
+) -> Position
+    ensures { λ p. ⌜ Owns (now (domains .entry)) (now (numbers .entry)) t (kept-answers (now (domains .entry)) count (now (kept .entry))) r (now (stored .exit)) (place-in p) ⌝ }
 {
     match r {
         Reply::Error => {
             verdict_author::put_number(1, stored);
-            Place::NotKnown
+            verdict_place::not_known()
         }
         Reply::NoRecord => {
             let author = alignment_stored::slot(domains, numbers, 0);

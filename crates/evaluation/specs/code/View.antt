@@ -18,9 +18,10 @@ use Rattle.verdict.specs.declared.Existence.{Existence}
 use Rattle.verdict.specs.Message.{Message}
 use Rattle.verdict.specs.Verdict.{Verdict}
 use Rattle.verdict_judgement.specs.code.Judging.{stored-message, verdict-in, Fixed}
-use Rattle.verdict_cursor.specs.declared.Place.{Place}
+use Rattle.verdict_cursor.specs.declared.PlaceKind.{PlaceKind}
 use Rattle.verdict_cursor.specs.code.Cursor.{Cursor, stands, needed}
 use Rattle.verdict_cursor.specs.code.Standing.{cursor-in}
+use Rattle.verdict_cursor.specs.code.Positions.{place-in}
 use Rattle.evaluation.specs.declared.Evaluation.{Evaluation}
 use Rattle.evaluation.specs.declared.Step.{Step}
 use Rattle.evaluation.specs.declared.Stepped.{Stepped}
@@ -40,7 +41,7 @@ unfoldable pub replies-now : Evaluation → Answers Reply
 replies-now e = kept-answers (e .domains) (e .count) (e .kept)
 
 unfoldable pub cursor-now : Evaluation → Cursor
-cursor-now e = cursor-in (e .domains) (e .numbers) (e .terms) (e .stored) (e .position .place)
+cursor-now e = cursor-in (e .domains) (e .numbers) (e .terms) (e .stored) (place-in (e .position))
 
 unfoldable pub asked-now : Evaluation → (asked : Bool) → Option Name
 asked-now e false = nothing
@@ -78,7 +79,12 @@ blank = record {
   kept = replicate 408 0;
   count = 0;
   stored = replicate 17 0;
-  position = record { place = Place.OwnName };
+  position = record {
+    kind = PlaceKind.OwnName;
+    ruling = record { begin = record { 0 = 0 }; settings = 0; policy = 0 };
+    walk = 0;
+    stop = record { found = false; begin = record { 0 = 0 }; settings = 0; target = record { begin = record { 0 = 0 }; wider = record { 0 = 0 } }; more = record { 0 = 0 } };
+  };
 }
 
 -- ------------------------------------------------------------------ what a call promises

@@ -12,6 +12,7 @@ use Rattle.alignment_stored.specs.code.Stored.{slot}
 use Rattle.verdict_judgement.specs.code.Judging.{stored-message}
 use Rattle.verdict_cursor.specs.code.Cursor.{stands, needed}
 use Rattle.verdict_cursor.specs.code.Standing.{cursor-in}
+use Rattle.verdict_cursor.specs.code.Positions.{place-in}
 use Rattle.verdict_ahead.specs.code.Waits.{waiting-name}
 use Rattle.evaluation_keep.specs.code.Asking.{answered}
 use Rattle.evaluation_keep.proofs.find_asked.Statement.{statement}
@@ -21,7 +22,7 @@ use Rattle.evaluation_keep.proofs.find_asked.Tie as tie
 named : (v : tie.After-is-name) (stored : List ℕ) →
     let a = v .before .before .before .before .before .before .before .before .before .before .before .args in
     let mark = v .before .before .before .before .target .given .0 in
-    answered (a .live) (a .name .now) (needed (stands (stored-message (a .domains .now) (a .numbers .now) (a .t)) (cursor-in (a .domains .now) (a .numbers .now) (a .t) stored (a .p))))
+    answered (a .live) (a .name .now) (needed (stands (stored-message (a .domains .now) (a .numbers .now) (a .t)) (cursor-in (a .domains .now) (a .numbers .now) (a .t) stored (place-in (a .at)))))
     ≡ (if v .is-name .result then just (asked-name (drop (mark .1 .0 .0) (slot (a .domains .now) (a .numbers .now) (mark .0)))) else nothing)
 unfolding answered waiting-name
 named v stored =

@@ -8,6 +8,9 @@ use Rattle.verdict_advance.proofs.advance.Tie as tie
 slot-requires : tie.Need-slot-requires
 slot-requires c κs = search needs
 
+read-requires : tie.Need-read-requires
+read-requires c κs = search needs
+
 enum-told : tie.Need-enum-told
 enum-told c = search needs
 
@@ -41,40 +44,49 @@ advance-identifier-requires c κs = search needs
 returns : tie.Need-returns
 returns c =
     let told = c .before .before in
-    let a = told .before .before .before .before .before .before .args in
-    rw (told .enum-told .given .1) (moves-own (a .domains .now) (a .numbers .now) (a .t) (kept-answers (a .domains .now) (a .count) (a .kept .now)) (a .stored .now) (a .r) _ (c .own .result) (c .own .ensures))
+    let p = told .before .before in
+    let a = p .before .before .before .before .before .args in
+    rw (← (p .read .ensures), told .enum-told .given .1)
+    (moves-own (a .domains .now) (a .numbers .now) (a .t) (kept-answers (a .domains .now) (a .count) (a .kept .now)) (a .stored .now) (a .r) _ _ (c .own .ensures))
 
 returns-2 : tie.Need-returns-2
 returns-2 c =
     let w = c .before .before in
     let told = w .before .before in
-    let n = told .before .before in
+    let p = told .before .before in
+    let n = p .before in
     let a = n .before .before .before .before .args in
-    rw (told .p .given .1)
-    (moves-author (a .domains .now) (a .numbers .now) (a .t) (kept-answers (a .domains .now) (a .count) (a .kept .now)) (a .stored .now) (a .r) _ (c .found .result) _ (w .reach-after .result) (rw (n .slot .ensures) at (w .reach-after .ensures)) (c .found .ensures))
+    rw (← (p .read .ensures), told .p .given .1)
+    (moves-author (a .domains .now) (a .numbers .now) (a .t) (kept-answers (a .domains .now) (a .count) (a .kept .now)) (a .stored .now) (a .r) _ _ _ (w .reach-after .result) (rw (n .slot .ensures) at (w .reach-after .ensures)) (c .found .ensures))
 
 returns-3 : tie.Need-returns-3
 returns-3 c =
     let w = c .before .before in
     let told = w .before .before in
-    let n = told .before .before in
+    let p = told .before .before in
+    let n = p .before in
     let a = n .before .before .before .before .args in
-    rw (told .p2 .given .1)
-    (moves-completing (a .domains .now) (a .numbers .now) (a .t) (kept-answers (a .domains .now) (a .count) (a .kept .now)) (a .stored .now) (a .r) _ (c .complete .result) _ (w .reach-after2 .result) _ (rw (n .slot .ensures) at (w .reach-after2 .ensures)) (c .complete .ensures))
+    rw (← (p .read .ensures), told .p2 .given .1)
+    (moves-completing (a .domains .now) (a .numbers .now) (a .t) (kept-answers (a .domains .now) (a .count) (a .kept .now)) (a .stored .now) (a .r) _ _ _ (w .reach-after2 .result) _ (rw (n .slot .ensures) at (w .reach-after2 .ensures)) (c .complete .ensures))
 
 returns-4 : tie.Need-returns-4
-returns-4 c = rw (c .before .before .before .p3 .given .1) (c .advance-identifier .ensures)
+returns-4 c =
+    let told = c .before .before .before in
+    rw (← (told .before .before .read .ensures), told .p3 .given .1) (c .advance-identifier .ensures)
 
 returns-5 : tie.Need-returns-5
 returns-5 c =
-    let a = c .before .before .before .before .before .args in
-    stays (a .domains .now) (a .numbers .now) (a .t) (kept-answers (a .domains .now) (a .count) (a .kept .now)) (a .stored .now) (a .r) (a .p) (c .match .keys5)
+    let p = c .before in
+    let a = p .before .before .before .before .before .args in
+    rw (← (p .read .ensures))
+    (stays (a .domains .now) (a .numbers .now) (a .t) (kept-answers (a .domains .now) (a .count) (a .kept .now)) (a .stored .now) (a .r) (p .read .result) (c .match .keys5))
 
 pub advance-spec : {M : Type 1} → statement M
 advance-spec =
     tie.close
     (tie.spec
     slot-requires
+    read-requires
     enum-told
     own-requires
     enum-known-p

@@ -8,19 +8,29 @@ use Rattle.verdict_advance.proofs.AdvanceLaws.{moves-identifier, stays-
 use Rattle.verdict_advance.proofs.advance_identifier.Statement.{statement}
 use Rattle.verdict_advance.proofs.advance_identifier.Tie as tie
 
+identifier-requires : tie.Need-identifier-requires
+identifier-requires c κs = search needs
+
 returns : tie.Need-returns
 returns c =
-    let a = c .before .before .before .before .args in
-    stays-early (a .domains .now) (a .numbers .now) (a .t) (kept-answers (a .domains .now) (a .count) (a .kept .now)) (a .stored .now) (a .r) (a .ruling) (a .walk) (a .stop) (c .if1 .taken)
+    let early = c .before in
+    let a = early .before .before .before .before .args in
+    rw (c .identifier .ensures)
+    (stays-early (a .domains .now) (a .numbers .now) (a .t) (kept-answers (a .domains .now) (a .count) (a .kept .now)) (a .stored .now) (a .r) (a .ruling) (a .walk) (a .stop) (early .if1 .taken))
 
 smaller-requires : tie.Need-smaller-requires
 smaller-requires c κs = search needs
 
+identifier-requires-2 : tie.Need-identifier-requires-2
+identifier-requires-2 c κs = search needs
+
 returns-2 : tie.Need-returns-2
 unfolding given-count
 returns-2 c =
-    let a = c .before .before .before .before .before .before .args in
-    stays-late (a .domains .now) (a .numbers .now) (a .t) (kept-answers (a .domains .now) (a .count) (a .kept .now)) (a .stored .now) (a .r) (a .ruling) (a .walk) (a .stop) (omega (arith, c .before .smaller .ensures, c .if2 .taken))
+    let late = c .before in
+    let a = late .before .before .before .before .before .before .args in
+    rw (c .identifier2 .ensures)
+    (stays-late (a .domains .now) (a .numbers .now) (a .t) (kept-answers (a .domains .now) (a .count) (a .kept .now)) (a .stored .now) (a .r) (a .ruling) (a .walk) (a .stop) (omega (arith, late .before .smaller .ensures, late .if2 .taken)))
 
 slot-requires : tie.Need-slot-requires
 slot-requires c κs = search needs
@@ -40,7 +50,7 @@ returns-3 c =
     let a = early .before .before .before .before .args in
     let begun = early .if1 .left in
     let there : a .walk ≤ given-count (a .domains .now) (a .numbers .now) (a .t) = omega (arith, late .before .smaller .ensures, late .if2 .left) in
-    moves-identifier (a .domains .now) (a .numbers .now) (a .t) (kept-answers (a .domains .now) (a .count) (a .kept .now)) (a .stored .now) (a .r) _ (c .compare-after .result) (a .stop) (w .reach-after .result) (a .ruling) (a .walk) (omega (arith, begun)) there
+    moves-identifier (a .domains .now) (a .numbers .now) (a .t) (kept-answers (a .domains .now) (a .count) (a .kept .now)) (a .stored .now) (a .r) _ _ (a .stop) (w .reach-after .result) (a .ruling) (a .walk) (omega (arith, begun)) there
     (rw (w .before .slot .ensures) at (w .reach-after .ensures))
     (c .compare-after .ensures (omega (arith, begun)) there)
 
@@ -48,8 +58,10 @@ pub advance-identifier-spec : {M : Type 1} → statement M
 advance-identifier-spec =
     tie.close
     (tie.spec
+    identifier-requires
     returns
     smaller-requires
+    identifier-requires-2
     returns-2
     slot-requires
     reach-after-requires

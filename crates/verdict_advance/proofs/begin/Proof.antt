@@ -15,6 +15,9 @@ look-at-requires c κs = search needs
 enum-told : tie.Need-enum-told
 enum-told c = search needs
 
+own-name-requires : tie.Need-own-name-requires
+own-name-requires c κs = search needs
+
 enum-known-r : tie.Need-enum-known-r
 enum-known-r c = search needs
 
@@ -23,10 +26,12 @@ own-requires c κs = search needs
 
 returns : tie.Need-returns
 returns c =
-    let l = c .before .before in
+    let told = c .before in
+    let l = told .before .before in
     let n = l .before in
     let a = n .before .before .before .before .args in
-    begins-missing (a .domains .now) (a .numbers .now) (a .t) (kept-answers (a .domains .now) (a .count) (a .kept .now)) _ (sym (c .enum-told .given .1) ∙ (rw (n .slot .ensures) at (l .look-at .ensures)))
+    rw (c .own-name .ensures)
+    (begins-missing (a .domains .now) (a .numbers .now) (a .t) (kept-answers (a .domains .now) (a .count) (a .kept .now)) _ (sym (told .enum-told .given .1) ∙ (rw (n .slot .ensures) at (l .look-at .ensures))))
 
 returns-2 : tie.Need-returns-2
 returns-2 c =
@@ -34,9 +39,17 @@ returns-2 c =
     let l = told .before .before in
     let n = l .before in
     let a = n .before .before .before .before .args in
-    begins-known (a .domains .now) (a .numbers .now) (a .t) (kept-answers (a .domains .now) (a .count) (a .kept .now)) _ (c .own .result) _ (sym (told .r .given .1) ∙ (rw (n .slot .ensures) at (l .look-at .ensures))) (c .own .ensures)
+    begins-known (a .domains .now) (a .numbers .now) (a .t) (kept-answers (a .domains .now) (a .count) (a .kept .now)) _ _ _ (sym (told .r .given .1) ∙ (rw (n .slot .ensures) at (l .look-at .ensures))) (c .own .ensures)
 
 pub begin-spec : {M : Type 1} → statement M
 begin-spec =
     tie.close
-    (tie.spec slot-requires look-at-requires enum-told enum-known-r own-requires returns returns-2)
+    (tie.spec
+    slot-requires
+    look-at-requires
+    enum-told
+    own-name-requires
+    enum-known-r
+    own-requires
+    returns
+    returns-2)

@@ -16,7 +16,7 @@ returns : tie.Need-returns
 returns c =
     let s = c .before .before in
     let a = s .before .before .before .before .before .args in
-    compares-all (a .domains .now) (a .numbers .now) (a .t) (kept-answers (a .domains .now) (a .count) (a .kept .now)) _ (c .compare .result) _ (a .ruling) (a .w) (s .store .ensures) (c .compare .ensures (omega arith) (omega arith))
+    compares-all (a .domains .now) (a .numbers .now) (a .t) (kept-answers (a .domains .now) (a .count) (a .kept .now)) _ _ _ (a .ruling) (a .w) (s .store .ensures) (c .compare .ensures (omega arith) (omega arith))
 
 pub compare-all-spec : {M : Type 1} → statement M
 compare-all-spec = tie.close (tie.spec store-requires compare-requires returns)

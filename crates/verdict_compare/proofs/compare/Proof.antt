@@ -60,15 +60,20 @@ pass-at-requires c κs = search needs
 enum-known-stop : tie.Need-enum-known-stop Inv-loop μ-loop
 enum-known-stop c = search needs
 
+identifier-requires : tie.Need-identifier-requires Inv-loop μ-loop
+identifier-requires c κs = search needs
+
 returns : tie.Need-returns Inv-loop μ-loop
 unfolding given-count
 returns c = λ h k.
-    let v = c .before .before .before in
+    let stop = c .before .before .stop .given in
+    let v = c .before .before .before .before in
     let m = v .before .before .loop in
     let last = v .before .before .before .smaller in
     let a = v .before .before .before .before .before .before .before .before .before .args in
-    stopped (a .domains .now) (a .numbers .now) (a .t) (kept-answers (a .domains .now) (a .count) (a .kept .now)) (a .ruling) (m .stored) (m .walk) (m .inv .1 (a .t) (last .ensures) h (omega (arith, k, last .ensures)) .0) (omega (arith, last .ensures)) (c .before .stop .given .0 .0)
-    ∙ sym (rw (c .before .stop .given .1) at (after v (a .t) (last .ensures) h (omega (arith, k, last .ensures))))
+    rw (c .identifier .ensures)
+    (stopped (a .domains .now) (a .numbers .now) (a .t) (kept-answers (a .domains .now) (a .count) (a .kept .now)) (a .ruling) (m .stored) (m .walk) (m .inv .1 (a .t) (last .ensures) h (omega (arith, k, last .ensures)) .0) (omega (arith, last .ensures)) (stop .0 .0)
+    ∙ sym (rw (stop .1) at (after v (a .t) (last .ensures) h (omega (arith, k, last .ensures)))))
 
 enum-known-number : tie.Need-enum-known-number Inv-loop μ-loop
 enum-known-number c = search needs
@@ -101,14 +106,18 @@ loop-again c =
           ),
     )
 
+judged-requires : tie.Need-judged-requires Inv-loop μ-loop
+judged-requires c κs = search needs
+
 returns-2 : tie.Need-returns-2 Inv-loop μ-loop
 unfolding given-count
 returns-2 c = λ h k.
-    let m = c .before .loop in
-    let last = c .before .before .smaller in
-    let a = c .before .before .before .before .before .before .before .before .args in
+    let m = c .before .before .loop in
+    let last = c .before .before .before .smaller in
+    let a = c .before .before .before .before .before .before .before .before .before .args in
     let i = m .inv .1 (a .t) (last .ensures) h (omega (arith, k, last .ensures)) in
-    judged (a .domains .now) (a .numbers .now) (a .t) (kept-answers (a .domains .now) (a .count) (a .kept .now)) (a .ruling) (m .stored) (m .walk) (omega (arith, last .ensures)) (omega (arith, i .1, last .ensures)) ∙ sym (i .3)
+    rw (c .judged .ensures)
+    (judged (a .domains .now) (a .numbers .now) (a .t) (kept-answers (a .domains .now) (a .count) (a .kept .now)) (a .ruling) (m .stored) (m .walk) (omega (arith, last .ensures)) (omega (arith, i .1, last .ensures)) ∙ sym (i .3))
 
 pub compare-spec : {M : Type 1} → statement M
 compare-spec =
@@ -121,10 +130,12 @@ compare-spec =
     loop-holds
     pass-at-requires
     enum-known-stop
+    identifier-requires
     returns
     enum-known-number
     store-requires
     add-walk
     loop-less
     loop-again
+    judged-requires
     returns-2)

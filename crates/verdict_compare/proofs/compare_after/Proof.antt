@@ -24,6 +24,9 @@ own v =
     let d = v .before .slot .ensures in
     rw d at (v .pass .ensures (rw d (slot-size (a .domains .now) (a .numbers .now) (a .walk))))
 
+judged-requires : tie.Need-judged-requires
+judged-requires c κs = search needs
+
 returns : tie.Need-returns
 unfolding given-count
 returns c = λ h k. absurd (omega (arith, k))
@@ -36,6 +39,9 @@ pass-requires c κs = search needs
 
 enum-known-stop : tie.Need-enum-known-stop
 enum-known-stop c = search needs
+
+identifier-requires : tie.Need-identifier-requires
+identifier-requires c κs = search needs
 
 enum-known-number : tie.Need-enum-known-number
 enum-known-number c = search needs
@@ -51,13 +57,14 @@ compare-requires c κs = search needs
 
 returns-2 : tie.Need-returns-2
 returns-2 c = λ h k.
-    let v = c .before .before .before in
+    let v = c .before .before .before .before in
     let a = v .before .before .before .before .before .before .args in
     let β = kept-answers (a .domains .now) (a .count) (a .kept .now) in
-    let stop = c .before .stop .given in
+    let stop = c .before .before .stop .given in
     compares-after (a .domains .now) (a .numbers .now) (a .t) β (a .ruling) (a .stored .now) (a .walk) (a .w) _ _
+    (rw (c .identifier .ensures)
     (stopped (a .domains .now) (a .numbers .now) (a .t) β (a .ruling) (a .stored .now) (a .walk) h k (stop .0 .0)
-    ∙ ap (after-walk (a .domains .now) (a .numbers .now) (a .t) β (a .ruling) (a .stored .now) (a .walk)) (rw (stop .1) at (own v)))
+    ∙ ap (after-walk (a .domains .now) (a .numbers .now) (a .t) β (a .ruling) (a .stored .now) (a .walk)) (rw (stop .1) at (own v))))
 
 returns-3 : tie.Need-returns-3
 returns-3 c = λ h k.
@@ -76,10 +83,12 @@ pub compare-after-spec : {M : Type 1} → statement M
 compare-after-spec =
     tie.close
     (tie.spec
+    judged-requires
     returns
     slot-requires
     pass-requires
     enum-known-stop
+    identifier-requires
     enum-known-number
     store-requires
     add-compare

@@ -12,18 +12,21 @@ use Rattle.verdict_found.proofs.complete.Tie as tie
 enum-known-w : tie.Need-enum-known-w
 enum-known-w c = search needs
 
+completing-requires : tie.Need-completing-requires
+completing-requires c κs = search needs
+
 compare-all-requires : tie.Need-compare-all-requires
 compare-all-requires c κs = search needs
 
 returns : tie.Need-returns
 unfolding cursor-in complete-reached reached-in stored-message
-returns c = rw (c .before .w .given .1)
+returns c = rw (c .completing .ensures, c .before .before .w .given .1)
 
 returns-2 : tie.Need-returns-2
 returns-2 c =
     let m = c .before .before in
     let a = m .before .before .before .before .args in
-    completes-over (a .domains .now) (a .numbers .now) (a .t) (kept-answers (a .domains .now) (a .count) (a .kept .now)) _ (c .compare-all .result) (a .ruling) (a .w) (m .match .keys2) (c .compare-all .ensures)
+    completes-over (a .domains .now) (a .numbers .now) (a .t) (kept-answers (a .domains .now) (a .count) (a .kept .now)) _ _ (a .ruling) (a .w) (m .match .keys2) (c .compare-all .ensures)
 
 pub complete-spec : {M : Type 1} → statement M
-complete-spec = tie.close (tie.spec enum-known-w compare-all-requires returns returns-2)
+complete-spec = tie.close (tie.spec enum-known-w completing-requires compare-all-requires returns returns-2)

@@ -25,6 +25,9 @@ halted-requires c κs = search needs
 store-requires : tie.Need-store-requires
 store-requires c κs = search needs
 
+not-usable-requires : tie.Need-not-usable-requires
+not-usable-requires c κs = search needs
+
 enum-known-used : tie.Need-enum-known-used
 enum-known-used c = search needs
 
@@ -34,16 +37,18 @@ judge-own-requires c κs = search needs
 returns : tie.Need-returns
 unfolding stored-message
 returns c =
-    let h = c .before .before in
+    let s = c .before in
+    let h = s .before .before in
     let told = h .before in
     let f = told .before .before in
     let n = f .before .before in
     let a = n .before .before .before .before .args in
-    owns-not-usable (a .domains .now) (a .numbers .now) (a .t) (kept-answers (a .domains .now) (a .count) (a .kept .now)) _ (a .settings) (f .before .turn .result) (h .halted .result)
+    rw (c .not-usable .ensures)
+    (owns-not-usable (a .domains .now) (a .numbers .now) (a .t) (kept-answers (a .domains .now) (a .count) (a .kept .now)) _ (a .settings) (f .before .turn .result) (h .halted .result)
     (sym (f .in-force .ensures) ∙ told .enum-told .given .1)
     (rw (n .slot .ensures) at (f .before .turn .ensures))
     (rw (n .slot .ensures) at (h .halted .ensures))
-    (c .store .ensures)
+    (s .store .ensures))
 
 returns-2 : tie.Need-returns-2
 unfolding stored-message
@@ -52,7 +57,7 @@ returns-2 c =
     let f = told .before .before in
     let n = f .before .before in
     let a = n .before .before .before .before .args in
-    owns-usable (a .domains .now) (a .numbers .now) (a .t) (kept-answers (a .domains .now) (a .count) (a .kept .now)) _ (c .judge-own .result) (a .settings) _ (f .before .turn .result)
+    owns-usable (a .domains .now) (a .numbers .now) (a .t) (kept-answers (a .domains .now) (a .count) (a .kept .now)) _ _ (a .settings) _ (f .before .turn .result)
     (sym (f .in-force .ensures) ∙ told .used .given .1)
     (rw (n .slot .ensures) at (f .before .turn .ensures))
     (c .judge-own .ensures)
@@ -67,6 +72,7 @@ apply-own-spec =
     enum-told
     halted-requires
     store-requires
+    not-usable-requires
     enum-known-used
     judge-own-requires
     returns

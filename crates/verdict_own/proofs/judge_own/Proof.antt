@@ -29,7 +29,7 @@ returns c =
     let k = g .before .before in
     let n = k .before .before in
     let a = n .before .before .before .before .args in
-    judges-walked (a .domains .now) (a .numbers .now) (a .t) (kept-answers (a .domains .now) (a .count) (a .kept .now)) _ (c .complete .result) (a .settings) (a .turned) _ (k .before .find-policy .ensures) (g .gone .result)
+    judges-walked (a .domains .now) (a .numbers .now) (a .t) (kept-answers (a .domains .now) (a .count) (a .kept .now)) _ _ (a .settings) (a .turned) _ (k .before .find-policy .ensures) (g .gone .result)
     (sym (g .before .if1 .taken) ∙ (rw (n .slot .ensures) at (k .any-must-walk .ensures)))
     (rw (n .slot .ensures) at (g .gone .ensures))
     (c .complete .ensures)
@@ -47,7 +47,7 @@ returns-2 c =
     let k = h .before .before in
     let n = k .before .before in
     let a = n .before .before .before .before .args in
-    judges-unwalked (a .domains .now) (a .numbers .now) (a .t) (kept-answers (a .domains .now) (a .count) (a .kept .now)) _ (c .compare-all .result) (a .settings) (a .turned) _ (k .before .find-policy .ensures) (h .halted .result)
+    judges-unwalked (a .domains .now) (a .numbers .now) (a .t) (kept-answers (a .domains .now) (a .count) (a .kept .now)) _ _ (a .settings) (a .turned) _ (k .before .find-policy .ensures) (h .halted .result)
     (sym (h .before .if1 .left) ∙ (rw (n .slot .ensures) at (k .any-must-walk .ensures)))
     (rw (n .slot .ensures) at (h .halted .ensures))
     (c .compare-all .ensures)

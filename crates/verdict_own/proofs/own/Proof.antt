@@ -13,6 +13,9 @@ enum-told c = search needs
 put-number-requires : tie.Need-put-number-requires
 put-number-requires c κs = search needs
 
+not-known-requires : tie.Need-not-known-requires
+not-known-requires c κs = search needs
+
 enum-told-2 : tie.Need-enum-told-2
 enum-told-2 c = search needs
 
@@ -33,9 +36,10 @@ apply-own-requires c κs = search needs
 
 returns : tie.Need-returns
 returns c =
-    let told = c .before .before in
+    let put = c .before in
+    let told = put .before .before in
     let a = told .before .before .before .before .before .args in
-    rw (told .enum-told .given .1) (owns-error (a .domains .now) (a .numbers .now) (a .t) (kept-answers (a .domains .now) (a .count) (a .kept .now)) _ (c .put-number .ensures))
+    rw (c .not-known .ensures, told .enum-told .given .1) (owns-error (a .domains .now) (a .numbers .now) (a .t) (kept-answers (a .domains .now) (a .count) (a .kept .now)) _ (put .put-number .ensures))
 
 returns-2 : tie.Need-returns-2
 unfolding stored-message found-in
@@ -44,7 +48,7 @@ returns-2 c =
     let n = w .before in
     let told = n .before in
     let a = told .before .before .before .before .before .args in
-    rw (told .enum-told2 .given .1) (owns-none (a .domains .now) (a .numbers .now) (a .t) (kept-answers (a .domains .now) (a .count) (a .kept .now)) _ (c .found .result) (w .reach-on .result) (rw (n .slot .ensures) at (w .reach-on .ensures)) (c .found .ensures))
+    rw (told .enum-told2 .given .1) (owns-none (a .domains .now) (a .numbers .now) (a .t) (kept-answers (a .domains .now) (a .count) (a .kept .now)) _ _ (w .reach-on .result) (rw (n .slot .ensures) at (w .reach-on .ensures)) (c .found .ensures))
 
 returns-3 : tie.Need-returns-3
 returns-3 c = rw (c .before .before .before .r .given .1) (c .apply-own .ensures)
@@ -55,6 +59,7 @@ own-spec =
     (tie.spec
     enum-told
     put-number-requires
+    not-known-requires
     enum-told-2
     slot-requires
     reach-on-requires
