@@ -1,408 +1,350 @@
--- What holds of the book book-after every list of calls.
-use mathlib.Core.Path.{_≡_, refl, ap, ap₂, sym, _∙_, subst}
-use mathlib.Core.List.{List, [], _∷_, _++_, append-assoc, append-nil}
-use mathlib.Core.Bool.{Bool, true, false, false≢true}
-use mathlib.Core.Option.{Option, none as nothing, some as just, Option·none-ne-some, Option·some-injective}
+-- What holds of the book after every list of calls.
+use mathlib.Core.Path.{_≡_, refl, ap, sym, _∙_, subst}
+use mathlib.Core.List.{List, [], _∷_, _++_, append-nil, append-assoc, map}
+use mathlib.Core.Bool.{Bool, true, false, _||_, true≢false, false≢true, or-false, or-true, or-assoc}
+use mathlib.Core.Option.{Option·none-ne-some}
 use Prim.Native.Nat.{_+_, _*_, _≤_}
-use lib.Dec.{leb}
-use borrow.Author.Tests.{le-leb}
-use lib.ListN.{length}
-use Rattle.octets.specs.Octets.{Octets, is-nothing, same-text, if_then_else_}
-use Rattle.octets.specs.Refusing.{OrRefused, ok, not-ok, refusal}
+use native.Mathlib.Omega.{arith}
+use lib.ListN.{length, length-append}
+use Rattle.octets.specs.Octets.{Octets, any, if_then_else_}
+use Rattle.octets.specs.Refusing.{OrRefused, ok, not-ok, _>>=_, refuse-if, refusal}
 use Rattle.octets.specs.declared.Refusal.{Refusal}
 use Rattle.octets.specs.declared.Written.{Written}
 use Rattle.octets.specs.Lent.{over, fits, written, left, written-if, left-if}
-use Rattle.lookup.specs.Lookup.{Answers, Name, names, find, member, once, path, value, list, Standing, needs, has, run-over, Grown, start, grow, Completes}
-use Rattle.lookup.specs.Claims.{Distinct, Ends, now, later}
-use Rattle.lookup.proofs.NameLaws.{once-new, once-seen, once-distinct, member-last}
-use Rattle.lookup.proofs.RunLaws.{asked-so-far, names-append, needs-injective, needs-open, find-not-member, needs-prefix, needs-short, has-list, has-value, has≢needs, ends}
+use Rattle.octets.proofs.RefusingLaws.{bind-ok, refuse-if-ok}
+use Rattle.lookup.specs.Lookup.{Name, names, once, list, Standing, needs, has, Completes}
+use Rattle.lookup.proofs.NameLaws.{once-append}
 use Rattle.lookup.proofs.ReadingLaws.{list-reading}
-use Rattle.domain.specs.Domain.{without-dot}
 use Rattle.txt.specs.declared.Status.{Status}
-use Rattle.txt.specs.Answers.{Answer, answer-of, texts, scratch-after, reply}
+use Rattle.txt.specs.Answers.{Answer, answer-of, reply}
+use Rattle.asking.specs.Asking.{Back, ask-name, verdict, accepted, wrote, refused, Given, given, Asking, begun, standing, now-asked, asked-names, count, next-by, next-step, result-by, result-of, transcript, leaves}
+use Rattle.asking.specs.Claims.{Reached, at-first, by-next, by-answer, given-name, AskingClaims, AskingClaimed}
+use Rattle.asking.proofs.AskingLaws.{take-cases, held, adds-next, adds-take, result-quiet, asking-claimed}
 use Rattle.walk.proofs.Claimed.{walk-claims}
 use Rattle.verdict.specs.Message.{Message}
 use Rattle.verdict.specs.Verdict.{Verdict, evaluate, separate-walks}
-use Rattle.book.specs.Book.{Call, next, result, answer, field, Back, ask-name, verdict, accepted, wrote, refused, Given, given, Book, opened, with-asked, kept, standing, or-error, count, next-by, book-next, answer-kept, answer-asked, book-answer, result-by, book-result, field-by, field-of, back-of, book-field, book-call, transcript, leaves}
 use Rattle.verdict.specs.Claims.{walked-domains, AskedAtMost}
-use Rattle.book.specs.BookClaims.{lent, book-after, given-name, given-names, now-asked, asked-names, NoVerdictYet, Comes, arrived, goes-on, BookClaims}
 use Rattle.verdict.proofs.Bounds.{asked-at-most}
+use Rattle.book.specs.Start.{GivenIdentifier, Opened, adding, adding-each, started}
+use Rattle.book.specs.Book.{Call, add, next, result, answer, field, Book, opened, walks, added, add-by, book-add, hands-out, stepped, book-next, answered, book-answer, book-result, field-of, back-of, field-by, book-field, book-call}
+use Rattle.book.specs.BookClaims.{book-after, book-gave, given-names, any-handed-out, accepted-adding, accepted-addings, lent, BookClaimed, SameState, NextCloses, NothingYet}
+use Rattle.book.proofs.StartLaws.{as-single, Sound, sound-opened, sound-added}
+use Rattle.book.proofs.FirstName.{first-name}
 
--- ------------------------------------------------------------------ the answers came by asking
+-- ------------------------------------------------------------------ one call
+
+-- an adding is refused, and the book is as it was; or nothing was handed out yet, and the message is the one that it gives
+add-cases : (P : Book × Given Verdict → Type 0) (b : Book) (g : GivenIdentifier)
+    → ((f : Refusal) → P (b, given (refused f) []))
+    → ((n : Message) → b .handed-out ≡ false → adding (b .message) g ≡ ok n → P (record { message = n; handed-out = b .handed-out; run = b .run }, given accepted []))
+    → P (book-add b g)
+unfolding book-add add-by added
+add-cases P b g stays adds = go (added b g) refl
+  where
+    go : (u : OrRefused Message) → added b g ≡ u → P (add-by b u)
+    go (not-ok f) e = stays f
+    go (ok n) e = let (h, k) = refuse-if-ok (b .handed-out) (refusal 17 0) (adding (b .message) g) n e in adds n h k
+
+next-gives : (s : Asking Answer) (u : Standing Verdict) → hands-out (next-by s u .1 .back) ≡ true
+unfolding next-by hands-out
+next-gives s (needs n) = refl
+next-gives s (has v) = refl
+
+-- and so it closes the adding
+closed : (b : Book) → book-next b .0 .handed-out ≡ true
+unfolding book-next stepped next-step
+closed b = ap (λ t. b .handed-out || t) (next-gives (b .run) (standing (walks b) (b .run))) ∙ or-true (b .handed-out)
+
+pub next-closes : NextCloses
+unfolding NextCloses book-call book-next stepped next-step
+next-closes b = (next-gives (b .run) (standing (walks b) (b .run)), closed b)
+
+-- ------------------------------------------------------------------ what every call keeps
 
 pub record Kept (b : Book) : Type 0 where
-  pub grown : Grown (separate-walks (b .message)) (b .answers)
-  -- the name now asked is the one that the book stands at
-  pub stands : (n : Name) → b .asked ≡ just n → standing b ≡ needs n
+  -- the run is one of the walks as they stand
+  pub reached : Reached (walks b) (b .run)
+  -- until a name or the verdict is handed out, it is as it began
+  pub fresh : b .handed-out ≡ false → b .run ≡ begun
+  pub sound : Sound (b .message)
 
-pub kept-opened : (m : Message) → Kept (opened m)
+pub kept-opened : (m : Message) → Opened m → Kept (opened m)
 unfolding opened
-kept-opened m = record { grown = start; stands = λ n e. absurd (Option·none-ne-some n e) }
+kept-opened m o = record { reached = at-first; fresh = λ e. refl; sound = sound-opened m o }
 
-pub kept-next-by : (b : Book) → Kept b → (u : Standing Verdict) → standing b ≡ u → Kept (next-by b u .0)
-unfolding next-by standing with-asked
-kept-next-by b κ (has v) e = κ
-kept-next-by b κ (needs n) e = record { grown = κ .grown; stands = λ a f. e ∙ ap needs (Option·some-injective n a f) }
+module _ (b : Book) (κ : Kept b) where
+  kept-add : (g : GivenIdentifier) → Kept (book-add b g .0)
+  kept-add g = add-cases (λ x. Kept (x .0)) b g (λ f. κ) λ n h e. record {
+    reached = subst (Reached _) (sym (κ .fresh h)) at-first;
+    fresh = κ .fresh;
+    sound = sound-added (b .message) (κ .sound) g n e;
+  }
 
-pub kept-kept : (b : Book) → Kept b → (n : Name) (a : Answer) → b .asked ≡ just n → Kept (kept b n a)
-unfolding kept standing
-kept-kept b κ n a e = record { grown = grow (κ .grown) (κ .stands n e) a; stands = λ x f. absurd (Option·none-ne-some x f) }
+  kept-next : Kept (book-next b .0)
+  unfolding book-next stepped walks
+  kept-next = record {
+    reached = by-next (κ .reached);
+    fresh = λ e. absurd (true≢false (sym (closed b) ∙ e));
+    sound = κ .sound;
+  }
 
--- an answer is refused, and the book is as it was; or it is kept for the name now asked
-answer-cases : (P : Book × Given → Type 0) (b : Book) (name : Octets) (status : Status) (bytes scratch : Octets)
-    → ((r : Refusal) → P (b, given (refused r) scratch))
-    → ((n : Name) (ts : List Octets) → b .asked ≡ just n → P (kept b n (answer-of status bytes), given accepted (scratch-after ts scratch)))
-    → P (book-answer b name status bytes scratch)
-unfolding book-answer answer-asked answer-kept
-answer-cases P b name status bytes scratch stays keeps = by-asked (b .asked) refl
-  where
-    a : Answer
-    a = answer-of status bytes
-
-    by-texts : (n : Name) → b .asked ≡ just n → (o : Option (List Octets)) → P (answer-kept b n a scratch o)
-    by-texts n e nothing = stays (refusal 6 0)
-    by-texts n e (just ts) =
-        elim (leb 4096 (length scratch)) as (λ t. P (if t then (kept b n a, given accepted (scratch-after ts scratch)) else (b, given (refused (refusal 10 4096)) scratch))) [
-          | true ↦ keeps n ts e
-          | false ↦ stays (refusal 10 4096)
-        ]
-
-    by-asked : (o : Option Name) → b .asked ≡ o → P (answer-asked b name a scratch o)
-    by-asked nothing e = stays (refusal 5 0)
-    by-asked (just n) e =
-        elim (same-text (without-dot name) n) as (λ t. P (if t then answer-kept b n a scratch (texts a) else (b, given (refused (refusal 5 0)) scratch))) [
-          | true ↦ by-texts n e (texts a)
-          | false ↦ stays (refusal 5 0)
-        ]
+  kept-answer : (name : Octets) (status : Status) (bytes scratch : Octets) → Kept (book-answer b name status bytes scratch .0)
+  unfolding book-answer answered walks begun
+  kept-answer name status bytes scratch = record {
+    reached = by-answer (κ .reached) name (answer-of status bytes) (answer-of status bytes) scratch;
+    fresh = λ h. take-cases (λ x. x .0 ≡ begun) (b .run) name (answer-of status bytes) (answer-of status bytes) scratch (λ f. κ .fresh h)
+        λ n ts e. absurd (Option·none-ne-some n (sym (ap (λ (s : Asking Answer). s .asked) (κ .fresh h)) ∙ e));
+    sound = κ .sound;
+  }
 
 pub kept-call : (b : Book) → Kept b → (c : Call) → Kept (book-call b c .0)
-unfolding book-call book-next
-kept-call b κ next = kept-next-by b κ (standing b) refl
+unfolding book-call
+kept-call b κ (add g) = kept-add b κ g
+kept-call b κ next = kept-next b κ
+kept-call b κ (answer name status bytes scratch) = kept-answer b κ name status bytes scratch
 kept-call b κ result = κ
 kept-call b κ (field output) = κ
-kept-call b κ (answer name status bytes scratch) =
-    answer-cases (λ x. Kept (x .0)) b name status bytes scratch (λ r. κ) (λ n ts e. kept-kept b κ n (answer-of status bytes) e)
 
 kept-calls : (b : Book) → Kept b → (cs : List Call) → Kept (leaves book-call b cs)
 unfolding leaves
 kept-calls b κ [] = κ
 kept-calls b κ (c ∷ cs) = kept-calls (book-call b c .0) (kept-call b κ c) cs
 
+pub kept-after : (m : Message) → Opened m → (cs : List Call) → Kept (book-after m cs)
+unfolding book-after
+kept-after m o cs = kept-calls (opened m) (kept-opened m o) cs
+
 leaves-snoc : (b : Book) (cs : List Call) (c : Call) → leaves book-call b (cs ++ (c ∷ [])) ≡ book-call (leaves book-call b cs) c .0
 unfolding leaves
 leaves-snoc b [] c = refl
 leaves-snoc b (d ∷ cs) c = leaves-snoc (book-call b d .0) cs c
 
--- the book book-after one call more
+-- the book after one call more
 pub after-snoc : (m : Message) (cs : List Call) (c : Call) → book-after m (cs ++ (c ∷ [])) ≡ book-call (book-after m cs) c .0
 unfolding book-after
 after-snoc m cs c = leaves-snoc (opened m) cs c
 
-pub kept-after : (m : Message) (cs : List Call) → Kept (book-after m cs)
-unfolding book-after
-kept-after m cs = kept-calls (opened m) (kept-opened m) cs
-
 -- ------------------------------------------------------------------ the names asked
 
--- a call that gives no name to ask and leaves the names asked as they were
-Quiet : Book → Book × Given → Type 0
-Quiet b x = (asked-names (x .0) ≡ asked-names b) × (given-name (x .1 .back) ≡ [])
+-- a call adds to the names asked the name that it gives, if it was not asked yet
+unfoldable Names : Book → Book × Given Verdict → Type 0
+Names b x = asked-names (x .0 .run) ≡ asked-names (b .run) ++ once (asked-names (b .run)) (given-name (x .1 .back))
 
--- what a call adds to the names asked: the name that it gives, if it was not asked yet
-AddsName : Book → Book × Given → Type 0
-AddsName b x = (l : List Name) → asked-names (x .0) ++ once (asked-names (x .0)) l ≡ asked-names b ++ once (asked-names b) (given-name (x .1 .back) ++ l)
-
-quiet-adds : (b : Book) (x : Book × Given) → Quiet b x → AddsName b x
-unfolding Quiet AddsName
-quiet-adds b x q l = rw (q .0, q .1)
-
-quiet-kept : (b : Book) (n : Name) (a : Answer) (s : Octets) → b .asked ≡ just n → Quiet b (kept b n a, given accepted s)
-unfolding Quiet kept asked-names given-name now-asked names
-quiet-kept b n a s e = (append-nil _ ∙ names-append (b .answers) ((n, a) ∷ []) ∙ ap (λ o. names (b .answers) ++ now-asked o) (sym e), refl)
-
-quiet-answer : (b : Book) (name : Octets) (status : Status) (bytes scratch : Octets) → Quiet b (book-answer b name status bytes scratch)
-unfolding Quiet given-name
-quiet-answer b name status bytes scratch =
-    answer-cases (Quiet b) b name status bytes scratch (λ r. (refl, refl)) (λ n ts e. quiet-kept b n (answer-of status bytes) (scratch-after ts scratch) e)
-
-quiet-result : (b : Book) (u : Standing Verdict) → given-name (result-by b u .back) ≡ []
-unfolding result-by given-name
-quiet-result b (has v) = refl
-quiet-result b (needs n) = refl
+quiet : (b : Book) (l : List Name) → l ≡ [] → asked-names (b .run) ≡ asked-names (b .run) ++ once (asked-names (b .run)) l
+unfolding once
+quiet b l e = sym (append-nil _) ∙ ap (λ l. asked-names (b .run) ++ once (asked-names (b .run)) l) (sym e)
 
 quiet-back : (w : Written) → given-name (back-of w) ≡ []
 unfolding back-of given-name
 quiet-back (Written.Wrote n) = refl
-quiet-back (Written.Refused r) = refl
+quiet-back (Written.Refused f) = refl
 
-quiet-field : (b : Book) (u : Standing Verdict) (output : Octets) → given-name (field-by b u output .back) ≡ []
+quiet-field : (m : Message) (u : Standing Verdict) (output : Octets) → given-name (field-by m u output .back) ≡ []
 unfolding field-by given-name
-quiet-field b (has v) output = quiet-back (written-if (field-of (b .message) v) output)
-quiet-field b (needs n) output = refl
+quiet-field m (needs n) output = refl
+quiet-field m (has v) output = quiet-back (written-if (field-of m v) output)
 
-adds-next : (b : Book) → Kept b → (u : Standing Verdict) → standing b ≡ u → AddsName b (next-by b u)
-unfolding next-by with-asked AddsName given-name asked-names now-asked standing run-over
-adds-next b κ (has v) e l = refl
-adds-next b κ (needs n) e l = go (b .asked) refl
-  where
-    ns : List Name
-    ns = names (b .answers)
+module _ (b : Book) (κ : Kept b) where
+  names-call : (c : Call) → Names b (book-call b c)
+  unfolding Names book-call book-next stepped book-answer answered book-result result-of book-field given-name
+  names-call (add g) = add-cases (Names b) b g (λ f. quiet b [] refl) (λ n h e. quiet b [] refl)
+  names-call next = adds-next (walks b) (b .run) (held (walks b) (b .run) (κ .reached))
+  names-call (answer name status bytes scratch) = adds-take Verdict (b .run) name (answer-of status bytes) (answer-of status bytes) scratch
+  names-call result = quiet b _ (result-quiet (b .run) (standing (walks b) (b .run)))
+  names-call (field output) = quiet b _ (quiet-field (b .message) (standing (walks b) (b .run)) output)
 
-    absent : member n ns ≡ false
-    absent = find-not-member (b .answers) n (needs-open (find (b .answers)) (separate-walks (b .message)) n e)
+names-calls : (b : Book) → Kept b → (ns : List Name) → asked-names (b .run) ≡ once [] ns → (cs : List Call)
+    → asked-names (leaves book-call b cs .run) ≡ once [] (ns ++ given-names (transcript book-call b cs))
+unfolding leaves transcript given-names Names
+names-calls b κ ns e [] = e ∙ ap (once []) (sym (append-nil ns))
+names-calls b κ ns e (c ∷ cs) =
+    names-calls (book-call b c .0) (kept-call b κ c) (ns ++ given-name (book-call b c .1 .back))
+    (names-call b κ c ∙ ap (λ (l : List Name). l ++ once l (given-name (book-call b c .1 .back))) e ∙ sym (once-append [] ns (given-name (book-call b c .1 .back)))) cs
+    ∙ ap (once []) (append-assoc ns (given-name (book-call b c .1 .back)) (given-names (transcript book-call (book-call b c .0) cs)))
 
-    again : (a : Name) → b .asked ≡ just a → a ≡ n
-    again a f = needs-injective a n (sym (κ .stands a f) ∙ e)
+names-after : (m : Message) → Opened m → (cs : List Call) → asked-names (book-after m cs .run) ≡ once [] (given-names (book-gave m cs))
+unfolding book-after book-gave opened begun asked-names now-asked names once
+names-after m o cs = names-calls (opened m) (kept-opened m o) [] refl cs
 
-    go : (o : Option Name) → b .asked ≡ o → (ns ++ (n ∷ [])) ++ once (ns ++ (n ∷ [])) l ≡ (ns ++ now-asked (b .asked)) ++ once (ns ++ now-asked (b .asked)) (n ∷ l)
-    go nothing f = rw (f, append-nil ns, once-new ns n l absent) (append-assoc ns (n ∷ []) (once (ns ++ (n ∷ [])) l))
-    go (just a) f = rw (f, again a f, once-seen (ns ++ (n ∷ [])) n l (member-last n ns))
+-- ------------------------------------------------------------------ a name or the verdict handed out
 
-adds-call : (b : Book) → Kept b → (c : Call) → AddsName b (book-call b c)
-unfolding book-call book-next book-result book-field Quiet
-adds-call b κ next = adds-next b κ (standing b) refl
-adds-call b κ result = quiet-adds b (b, book-result b) (refl, quiet-result b (standing b))
-adds-call b κ (field output) = quiet-adds b (b, book-field b output) (refl, quiet-field b (standing b) output)
-adds-call b κ (answer name status bytes scratch) = quiet-adds b _ (quiet-answer b name status bytes scratch)
+-- a call hands out what it gives
+unfoldable Hands : Book → Book × Given Verdict → Type 0
+Hands b x = x .0 .handed-out ≡ (b .handed-out || hands-out (x .1 .back))
 
-adds-calls : (b : Book) → Kept b → (cs : List Call) → asked-names (leaves book-call b cs) ≡ asked-names b ++ once (asked-names b) (given-names (transcript book-call b cs))
-unfolding leaves transcript given-names once AddsName
-adds-calls b κ [] = sym (append-nil (asked-names b))
-adds-calls b κ (c ∷ cs) = adds-calls (book-call b c .0) (kept-call b κ c) cs ∙ adds-call b κ c (given-names (transcript book-call (book-call b c .0) cs))
+hands-back : (w : Written) → hands-out (back-of w) ≡ false
+unfolding back-of hands-out
+hands-back (Written.Wrote n) = refl
+hands-back (Written.Refused f) = refl
 
-asked-given : (m : Message) (cs : List Call) → asked-names (book-after m cs) ≡ once [] (given-names (transcript book-call (opened m) cs))
-unfolding book-after asked-names now-asked names opened
-asked-given m cs = adds-calls (opened m) (kept-opened m) cs
+hands-field : (m : Message) (u : Standing Verdict) (output : Octets) → hands-out (field-by m u output .back) ≡ false
+unfolding field-by hands-out
+hands-field m (needs n) output = refl
+hands-field m (has v) output = hands-back (written-if (field-of m v) output)
 
--- ------------------------------------------------------------------ the message stays
+module _ (b : Book) (κ : Kept b) where
+  nothing-more : (t : Bool) → t ≡ false → b .handed-out ≡ (b .handed-out || t)
+  nothing-more t e = sym (ap (λ t. b .handed-out || t) e ∙ or-false (b .handed-out))
 
-message-next : (b : Book) (u : Standing Verdict) → next-by b u .0 .message ≡ b .message
-unfolding next-by with-asked
-message-next b (has v) = refl
-message-next b (needs n) = refl
-
-pub message-call : (b : Book) (c : Call) → book-call b c .0 .message ≡ b .message
-unfolding book-call book-next kept
-message-call b next = message-next b (standing b)
-message-call b result = refl
-message-call b (field output) = refl
-message-call b (answer name status bytes scratch) = answer-cases (λ x. x .0 .message ≡ b .message) b name status bytes scratch (λ r. refl) (λ n ts e. refl)
-
-message-calls : (b : Book) (cs : List Call) → leaves book-call b cs .message ≡ b .message
-unfolding leaves
-message-calls b [] = refl
-message-calls b (c ∷ cs) = message-calls (book-call b c .0) cs ∙ message-call b c
-
-pub message-after : (m : Message) (cs : List Call) → book-after m cs .message ≡ m
-unfolding book-after opened
-message-after m cs = message-calls (opened m) cs
-
--- ------------------------------------------------------------------ an error for every missing answer
-
--- the answers are completed
-pub or-error-completes : (β : Answers Answer) → Completes (or-error β) β
-unfolding or-error
-or-error-completes β n a e = rw (e, or-error)
-
--- the bound on the names asked
-pub list-bounded : (β : Answers Answer) (m : Message) → length (list (or-error β) (separate-walks m)) ≤ 8 + 8 * length (walked-domains (λ n. reply (or-error β n)) m)
-unfolding AskedAtMost separate-walks
-list-bounded β m = rw (list-reading reply (or-error β) (evaluate m)) (asked-at-most (λ n. reply (or-error β n)) m)
-
--- at the verdict, the names answered are those counted
-pub count-answered : (b : Book) → Kept b → (v : Verdict) → standing b ≡ has v → count b ≡ length (names (b .answers))
-unfolding standing count
-count-answered b κ v e = ap length (has-list (separate-walks (b .message)) (or-error (b .answers)) v (κ .grown) (or-error-completes (b .answers)) e)
-
--- ------------------------------------------------------------------ the claims
-
-module _ (m : Message) (cs : List Call) where
-  b : Book
-  b = book-after m cs
-
-  stands-at : (u : Standing Verdict) → standing b ≡ u → run-over (b .answers) (separate-walks m) ≡ u
-  unfolding standing b
-  stands-at u e = ap (λ x. run-over (b .answers) (separate-walks x)) (sym (message-after m cs)) ∙ e
-
-  -- a verdict is that of separate walks over any completion
-  pub verdict-walked : (v : Verdict) → standing (book-after m cs) ≡ has v → (α : Name → Answer) → Completes α (book-after m cs .answers) → value α (separate-walks m) ≡ v
-  unfolding b
-  verdict-walked v e α agrees = has-value α (book-after m cs .answers) agrees (separate-walks m) v (stands-at (has v) e)
-
-  grown-after : Grown (separate-walks m) (b .answers)
-  unfolding b
-  grown-after = rw (message-after m cs) at (kept-after m cs .grown)
-
-  -- at the verdict no name is asked
-  none-asked : (v : Verdict) → standing b ≡ has v → asked-names b ≡ names (b .answers)
-  unfolding asked-names now-asked b
-  none-asked v e = go (b .asked) refl
+  -- a result gives no verdict before a name was handed out
+  hands-result : b .handed-out ≡ (b .handed-out || hands-out (book-result b .back))
+  unfolding book-result result-of result-by hands-out walks
+  hands-result = go (b .handed-out) refl
     where
-      go : (o : Option Name) → b .asked ≡ o → names (b .answers) ++ now-asked (b .asked) ≡ names (b .answers)
-      go nothing f = ap (λ o. names (b .answers) ++ now-asked o) f ∙ append-nil (names (b .answers))
-      go (just n) f = absurd (has≢needs (sym e ∙ kept-after m cs .stands n f))
+      go : (t : Bool) → b .handed-out ≡ t → t ≡ (t || hands-out (result-of (walks b) (b .run) .back))
+      go true e = refl
+      go false e = let (n, f) = first-name (b .message) (κ .sound .author) in rw (κ .fresh e, f)
 
-  all-asked : (v : Verdict) → standing b ≡ has v → (α : Name → Answer) → Completes α (b .answers) → list α (separate-walks m) ≡ asked-names b
-  all-asked v e α agrees = has-list (separate-walks m) α v grown-after agrees (stands-at (has v) e) ∙ sym (none-asked v e)
+  hands-call : (c : Call) → Hands b (book-call b c)
+  unfolding Hands book-call book-next stepped book-answer answered book-field hands-out
+  hands-call (add g) = add-cases (Hands b) b g (λ f. nothing-more false refl) (λ n h e. nothing-more false refl)
+  hands-call next = refl
+  hands-call (answer name status bytes scratch) =
+      take-cases (λ x. Hands b (answered b x)) (b .run) name (answer-of status bytes) (answer-of status bytes) scratch (λ f. nothing-more false refl) (λ n ts e. nothing-more false refl)
+  hands-call result = hands-result
+  hands-call (field output) = nothing-more _ (hands-field (b .message) (standing (walks b) (b .run)) output)
 
-  count-is : (v : Verdict) → standing b ≡ has v → count b ≡ length (asked-names b)
-  unfolding b
-  count-is v e = count-answered b (kept-after m cs) v e ∙ ap length (sym (none-asked v e))
+hands-calls : (b : Book) → Kept b → (cs : List Call) → leaves book-call b cs .handed-out ≡ (b .handed-out || any-handed-out (transcript book-call b cs))
+unfolding leaves transcript any-handed-out any Hands
+hands-calls b κ [] = sym (or-false (b .handed-out))
+hands-calls b κ (c ∷ cs) =
+    hands-calls (book-call b c .0) (kept-call b κ c) cs
+    ∙ ap (λ t. t || any-handed-out (transcript book-call (book-call b c .0) cs)) (hands-call b κ c)
+    ∙ or-assoc (b .handed-out) (hands-out (book-call b c .1 .back)) (any-handed-out (transcript book-call (book-call b c .0) cs))
 
-  bounded-by : count b ≤ 8 + 8 * length (walked-domains (λ n. reply (or-error (b .answers) n)) m)
-  unfolding count b
-  bounded-by = rw (message-after m cs) (list-bounded (b .answers) m)
+pub handed-after : (m : Message) → Opened m → (cs : List Call) → book-after m cs .handed-out ≡ any-handed-out (book-gave m cs)
+unfolding book-after book-gave opened
+handed-after m o cs = hands-calls (opened m) (kept-opened m o) cs
 
-  first-asked : (α : Name → Answer) → Completes α (b .answers) → (rest : List Name) × (list α (separate-walks m) ≡ asked-names b ++ rest)
-  unfolding asked-names now-asked b
-  first-asked α agrees = go (b .asked) refl
-    where
-      ns : List Name
-      ns = names (b .answers)
+-- ------------------------------------------------------------------ adding
 
-      go : (o : Option Name) → b .asked ≡ o → (rest : List Name) × (list α (separate-walks m) ≡ (ns ++ now-asked (b .asked)) ++ rest)
-      go nothing e = (
-        once ns (path α (separate-walks m)),
-        asked-so-far (separate-walks m) α grown-after agrees ∙ ap (λ l. l ++ once ns (path α (separate-walks m))) (sym (append-nil ns) ∙ ap (λ o. ns ++ now-asked o) (sym e)),
-      )
-      go (just n) e = (
-        once (ns ++ (n ∷ [])) (path α (separate-walks m)),
-        needs-prefix (separate-walks m) α n grown-after agrees (stands-at (needs n) (kept-after m cs .stands n e))
-            ∙ sym (append-assoc ns (n ∷ []) (once (ns ++ (n ∷ [])) (path α (separate-walks m))))
-            ∙ ap (λ o. (ns ++ now-asked o) ++ once (ns ++ (n ∷ [])) (path α (separate-walks m))) (sym e),
-      )
+add-in-time : (b : Book) (g : GivenIdentifier) → b .handed-out ≡ false → book-call b (add g) ≡ add-by b (adding (b .message) g)
+unfolding book-call book-add added refuse-if _>>=_
+add-in-time b g e = ap (λ t. add-by b (refuse-if t (refusal 17 0) >>= λ _. adding (b .message) g)) e
 
--- ------------------------------------------------------------------ every run comes to its verdict
+add-too-late : (b : Book) (g : GivenIdentifier) → b .handed-out ≡ true → book-call b (add g) ≡ (b, given (refused (refusal 17 0)) [])
+unfolding book-call book-add added refuse-if _>>=_ add-by
+add-too-late b g e = ap (λ t. add-by b (refuse-if t (refusal 17 0) >>= λ _. adding (b .message) g)) e
 
-is-accepted : Back → Bool
-is-accepted (ask-name n) = false
-is-accepted (verdict v c) = false
-is-accepted accepted = true
-is-accepted (wrote n) = false
-is-accepted (refused r) = false
+-- a call adds to the message the identifier that it gives, if it is accepted
+unfoldable Adds : Book → Call → Book × Given Verdict → Type 0
+Adds b c x = (gs : List GivenIdentifier) → adding-each (b .message) (accepted-adding c (x .1 .back) ++ gs) ≡ adding-each (x .0 .message) gs
 
--- an accepted answer is kept for the name that was asked
-Keeps : Book → Answer → Book × Given → Type 0
-Keeps b a x = is-accepted (x .1 .back) ≡ true → (n : Name) × (x .0 ≡ kept b n a) × (b .asked ≡ just n)
+adds-call : (b : Book) (c : Call) → Adds b c (book-call b c)
+unfolding Adds book-call book-next stepped book-answer answered accepted-adding adding-each _>>=_
+adds-call b (add g) = add-cases (Adds b (add g)) b g (λ f gs. refl) (λ n h e gs. ap (λ u. u >>= λ n. adding-each n gs) e)
+adds-call b next = λ gs. refl
+adds-call b (answer name status bytes scratch) = λ gs. refl
+adds-call b result = λ gs. refl
+adds-call b (field output) = λ gs. refl
 
-keeps-answer : (b : Book) (name : Octets) (status : Status) (bytes scratch : Octets) → Keeps b (answer-of status bytes) (book-answer b name status bytes scratch)
-unfolding Keeps is-accepted
-keeps-answer b name status bytes scratch =
-    answer-cases (Keeps b (answer-of status bytes)) b name status bytes scratch (λ r h. absurd (false≢true h)) (λ n ts e h. (n, refl, e))
+adds-calls : (b : Book) (cs : List Call) → adding-each (b .message) (accepted-addings cs (transcript book-call b cs)) ≡ ok (leaves book-call b cs .message)
+unfolding leaves transcript accepted-addings adding-each Adds
+adds-calls b [] = refl
+adds-calls b (c ∷ cs) = adds-call b c (accepted-addings cs (transcript book-call (book-call b c .0) cs)) ∙ adds-calls (book-call b c .0) cs
 
-unfoldable book : Message → Answers Answer → Option Name → Book
-book m β a = record { message = m; answers = β; asked = a }
+adds-after : (m : Message) (cs : List Call) → adding-each m (accepted-addings cs (book-gave m cs)) ≡ ok (book-after m cs .message)
+unfolding book-after book-gave opened
+adds-after m cs = adds-calls (opened m) cs
 
-next-stuck : (b : Book) (n : Name) → standing b ≡ needs n → book-next b ≡ (book (b .message) (b .answers) (just n), given (ask-name n) [])
-unfolding book-next next-by with-asked book
-next-stuck b n e = ap (next-by b) e
+-- added one by one, the book is as it is opened with them all
+opened-each : (m n : Message) (gs : List GivenIdentifier) → adding-each m gs ≡ ok n → leaves book-call (opened m) (map add gs) ≡ opened n
+unfolding adding-each leaves book-call book-add added add-by refuse-if opened _>>=_
+opened-each m n [] e = ap opened cc
+opened-each m n (g ∷ gs) e =
+    let (k, (f, h)) = bind-ok (adding m g) (λ k. adding-each k gs) n e in
+    ap (λ u. leaves book-call (add-by (opened m) u .0) (map add gs)) f ∙ opened-each k n gs h
 
-comes-from : (m : Message) (β : Answers Answer) (a : Option Name) → Ends (separate-walks m) β → Comes (book m β a)
-unfolding book standing Keeps is-accepted kept
-comes-from m β a (now v e) = arrived v e
-comes-from m β a (later n e f) = goes-on n (ap (λ (x : Book × Given). x .1 .back) (next-stuck (book m β a) n e)) (go (λ r. comes-from m (β ++ ((n, r) ∷ [])) nothing (f r)))
-  where
-    asking : Book
-    asking = book-next (book m β a) .0
+pub same-state : SameState
+unfolding SameState book-after started _>>=_
+same-state g m n e f = opened-each m n (g .identifiers) (ap (λ u. u >>= λ k. adding-each k (g .identifiers)) (sym e) ∙ as-single g ∙ f)
 
-    asks-n : asking ≡ book m β (just n)
-    asks-n = ap (λ (x : Book × Given). x .0) (next-stuck (book m β a) n e)
+-- ------------------------------------------------------------------ refused
 
-    go : ((r : Answer) → Comes (book m (β ++ ((n, r) ∷ [])) nothing))
-        → (name : Octets) (status : Status) (bytes scratch : Octets) → book-answer asking name status bytes scratch .1 .back ≡ accepted
-        → Comes (book-answer asking name status bytes scratch .0)
-    go ih name status bytes scratch h = subst Comes (sym same-book) (ih (answer-of status bytes))
-      where
-        held : (x : Name) × (book-answer asking name status bytes scratch .0 ≡ kept asking x (answer-of status bytes)) × (asking .asked ≡ just x)
-        held = keeps-answer asking name status bytes scratch (ap is-accepted h)
-
-        same-name : held .0 ≡ n
-        same-name = Option·some-injective (held .0) n (sym (held .2) ∙ ap (λ (x : Book). x .asked) asks-n)
-
-        same-book : book-answer asking name status bytes scratch .0 ≡ book m (β ++ ((n, answer-of status bytes) ∷ [])) nothing
-        same-book = held .1 ∙ ap₂ (λ x y. kept x y (answer-of status bytes)) asks-n same-name
-
-comes-after : (m : Message) (cs : List Call) → Comes (book-after m cs)
-unfolding book
-comes-after m cs = comes-from (book-after m cs .message) (book-after m cs .answers) (book-after m cs .asked) (ends (separate-walks (book-after m cs .message)) (book-after m cs .answers))
-
--- ------------------------------------------------------------------ accepted, and refused
-
-accepted-now : (b : Book) (n : Name) → b .asked ≡ just n → (name : Octets) → same-text (without-dot name) n ≡ true
-    → (status : Status) (bytes scratch : Octets) → is-nothing (texts (answer-of status bytes)) ≡ false → 4096 ≤ length scratch
-    → book-answer b name status bytes scratch .1 .back ≡ accepted
-unfolding book-answer answer-asked answer-kept is-nothing
-accepted-now b n e name f status bytes scratch h k = rw (e, f) (go (record { message = b .message; answers = b .answers; asked = just n }) (texts (answer-of status bytes)) h)
-  where
-    go : (b : Book) (o : Option (List Octets)) → is-nothing o ≡ false → answer-kept b n (answer-of status bytes) scratch o .1 .back ≡ accepted
-    go b nothing f = absurd (false≢true (sym f))
-    go b (just ts) f = rw (le-leb 4096 (length scratch) k)
-
-is-refused : Back → Bool
+is-refused : Back Verdict → Bool
 is-refused (ask-name n) = false
 is-refused (verdict v c) = false
 is-refused accepted = false
 is-refused (wrote n) = false
-is-refused (refused r) = true
+is-refused (refused f) = true
 
-Stands : Book → Octets → Book × Given → Type 0
-Stands b s x = is-refused (x .1 .back) ≡ true → (x .0 ≡ b) × (x .1 .memory ≡ s)
+Stands : Book → Octets → Refusal → Book × Given Verdict → Type 0
+Stands b memory f x = x .1 .back ≡ refused f → x ≡ (b, given (refused f) memory)
 
-stands-next : (b : Book) (u : Standing Verdict) → Stands b [] (next-by b u)
-unfolding Stands next-by is-refused
-stands-next b (needs n) h = absurd (false≢true h)
-stands-next b (has v) h = absurd (false≢true h)
+given-more : (k : Back Verdict) (f : Refusal) → is-refused k ≡ false → k ≡ refused f → ⊥
+unfolding is-refused
+given-more k f e h = false≢true (sym e ∙ ap is-refused h)
 
-stands-result : (b : Book) (u : Standing Verdict) → Stands b [] (b, result-by b u)
+stands-next : (b : Book) (u : Standing Verdict) (f : Refusal) → Stands b [] f (stepped b (next-by (b .run) u))
+unfolding Stands stepped next-by is-refused
+stands-next b (needs n) f h = absurd (given-more (ask-name n) f refl h)
+stands-next b (has v) f h = absurd (given-more (verdict v (count (b .run))) f refl h)
+
+stands-result : (b : Book) (u : Standing Verdict) (f : Refusal) → Stands b [] f (b, result-by (b .run) u)
 unfolding Stands result-by is-refused
-stands-result b (needs n) h = (refl, refl)
-stands-result b (has v) h = absurd (false≢true h)
+stands-result b (needs n) f h = ap (λ k. (b, given k [])) h
+stands-result b (has v) f h = absurd (given-more (verdict v (count (b .run))) f refl h)
 
-stands-field : (b : Book) (u : Standing Verdict) (output : Octets) → Stands b output (b, field-by b u output)
+stands-field : (b : Book) (u : Standing Verdict) (output : Octets) (f : Refusal) → Stands b output f (b, field-by (b .message) u output)
 unfolding Stands field-by written-if left-if back-of written left is-refused
-stands-field b (needs n) output h = (refl, refl)
-stands-field b (has v) output h = (refl, go (field-of (b .message) v) h)
+stands-field b (needs n) output f h = ap (λ k. (b, given k output)) h
+stands-field b (has v) output f h = ap (λ g. (b, g)) (go (field-of (b .message) v) h)
   where
-    go : (o : OrRefused Octets) → is-refused (back-of (written-if o output)) ≡ true → left-if o output ≡ output
-    go (not-ok r) h = refl
+    go : (o : OrRefused Octets) → back-of (written-if o output) ≡ refused f → given (back-of (written-if o output)) (left-if o output) ≡ given (refused f) output
+    go (not-ok r) h = ap (λ k. given k output) h
     go (ok t) h = fit (fits t output) h
       where
-        fit : (f : Bool) → is-refused (back-of (if f then Written.Wrote (length t) else Written.Refused (refusal 10 (length t)))) ≡ true → (if f then over t output else output) ≡ output
-        fit true h = absurd (false≢true h)
-        fit false h = refl
+        fit : (r : Bool) → back-of (if r then Written.Wrote (length t) else Written.Refused (refusal 10 (length t))) ≡ refused f
+            → given (back-of (if r then Written.Wrote (length t) else Written.Refused (refusal 10 (length t)))) (if r then over t output else output) ≡ given (refused f) output
+        fit true h = absurd (given-more (wrote (length t)) f refl h)
+        fit false h = ap (λ k. given k output) h
 
-stands-call : (b : Book) (c : Call) → Stands b (lent c) (book-call b c)
-unfolding book-call book-next book-result book-field lent Stands is-refused
-stands-call b next = stands-next b (standing b)
-stands-call b result = stands-result b (standing b)
-stands-call b (field output) = stands-field b (standing b) output
-stands-call b (answer name status bytes scratch) =
-    answer-cases (Stands b scratch) b name status bytes scratch (λ r h. (refl, refl)) (λ n ts e h. absurd (false≢true h))
+stands-call : (b : Book) (c : Call) (f : Refusal) → Stands b (lent c) f (book-call b c)
+unfolding Stands book-call book-next next-step book-answer answered book-result result-of book-field lent is-refused
+stands-call b (add g) f = add-cases (Stands b [] f) b g (λ r h. ap (λ k. (b, given k [])) h) (λ n e g h. absurd (given-more accepted f refl h))
+stands-call b next f = stands-next b (standing (walks b) (b .run)) f
+stands-call b result f = stands-result b (standing (walks b) (b .run)) f
+stands-call b (field output) f = stands-field b (standing (walks b) (b .run)) output f
+stands-call b (answer name status bytes scratch) f =
+    take-cases (λ x. Stands b scratch f (answered b x)) (b .run) name (answer-of status bytes) (answer-of status bytes) scratch
+    (λ r h. ap (λ k. (b, given k scratch)) h) (λ n ts e h. absurd (given-more accepted f refl h))
 
-pub book-claims : (m : Message) (cs : List Call) → BookClaims m cs
-unfolding b Stands is-refused
-book-claims m cs = record {
-  asked = asked-given m cs;
-  each-once = subst Distinct (sym (asked-given m cs)) (once-distinct [] (given-names (transcript book-call (opened m) cs)));
-  at-verdict = all-asked m cs;
-  that-verdict = verdict-walked m cs;
-  counted = count-is m cs;
-  bounded = bounded-by m cs;
-  each-walk = walk-claims .at-most-eight (λ n. reply (or-error (book-after m cs .answers) n));
-  until-then = first-asked m cs;
-  comes = comes-after m cs;
-  not-after = λ n e α agrees. needs-short (separate-walks m) α n (grown-after m cs) agrees (stands-at m cs (needs n) e);
-  answered = λ v e α agrees. has-list (separate-walks m) α v (grown-after m cs) agrees (stands-at m cs (has v) e);
-  accepts = accepted-now (book-after m cs);
-  refused-stands = λ c r e. stands-call (book-after m cs) c (ap is-refused e);
+-- ------------------------------------------------------------------ the claims
+
+-- the bound on the names asked
+pub list-bounded : (α : Name → Answer) (m : Message) → length (list α (separate-walks m)) ≤ 8 + 8 * length (walked-domains (λ n. reply (α n)) m)
+unfolding AskedAtMost separate-walks
+list-bounded α m = rw (list-reading reply α (evaluate m)) (asked-at-most (λ n. reply (α n)) m)
+
+pub run-claims : (m : Message) → Opened m → (cs : List Call) → AskingClaims (walks (book-after m cs)) (book-after m cs .run)
+unfolding AskingClaimed
+run-claims m o cs = asking-claimed Answer Verdict (walks (book-after m cs)) (book-after m cs .run) (kept-after m o cs .reached)
+
+bounded-by : (b : Book) → AskingClaims (walks b) (b .run) → (α : Name → Answer) → Completes α (b .run .taken)
+    → (count (b .run) ≤ length (list α (walks b))) × (length (list α (walks b)) ≤ 8 + 8 * length (walked-domains (λ n. reply (α n)) (b .message)))
+unfolding count walks
+bounded-by b claims α agrees =
+    let (rest, f) = claims .until-then α agrees in
+    (omega (arith, ap length f ∙ length-append (asked-names (b .run)) rest), list-bounded α (b .message))
+
+pub book-claimed : BookClaimed
+unfolding BookClaimed Stands
+book-claimed m o cs = record {
+  asked = names-after m o cs;
+  of-its-run = run-claims m o cs;
+  bounded = bounded-by (book-after m cs) (run-claims m o cs);
+  each-walk = λ α. walk-claims .at-most-eight (λ n. reply (α n));
+  refused-stands = stands-call (book-after m cs);
+  in-time = λ e g. add-in-time (book-after m cs) g (handed-after m o cs ∙ e);
+  too-late = λ e g. add-too-late (book-after m cs) g (handed-after m o cs ∙ e);
+  as-they-stand = adds-after m cs;
+  up-to-16 = kept-after m o cs .sound .few;
 }
 
--- ------------------------------------------------------------------ no verdict while a name lacks an answer
-
-pub no-verdict-yet : (b : Book) → NoVerdictYet b
-unfolding book-next book-result book-field next-by result-by field-by
-no-verdict-yet b = record {
-  asks = λ n e. ap (next-by b) e;
-  no-result = λ n e. ap (result-by b) e;
-  no-field = λ n output e. ap (λ u. field-by b u output) e;
+pub nothing-yet : (b : Book) → NothingYet b
+unfolding book-call book-next stepped next-step next-by book-result result-of result-by book-field field-by hands-out
+nothing-yet b = record {
+  asks = λ n e. ap (λ u. stepped b (next-by (b .run) u)) e ∙ rw or-true;
+  no-result = λ n e. ap (λ u. (b, result-by (b .run) u)) e;
+  no-field = λ n output e. ap (λ u. (b, field-by (b .message) u output)) e;
 }

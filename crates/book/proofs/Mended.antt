@@ -4,69 +4,59 @@ use mathlib.Core.Bool.{false, true≢false}
 use mathlib.Core.Option.{Option, none as nothing, some as just, Option·none-ne-some, Option·some-injective}
 use Prim.Native.Nat.{ℕ}
 use Rattle.lookup.specs.Lookup.{Name, Answers, Standing, needs, has, find, value, Completes}
-use Rattle.txt.specs.Answers.{Answer}
+use Rattle.lookup.proofs.RunLaws.{has-value}
+use Rattle.txt.specs.Answers.{Answer, lookup-error}
+use Rattle.asking.specs.Asking.{Back, ask-name, verdict, accepted, wrote, refused, standing, result-by, result-of}
+use Rattle.asking.proofs.Completing.{completed, completes}
 use Rattle.verdict.specs.Verdict.{Verdict, separate-walks}
 use Rattle.verdict.specs.Mending.{is-lookup-error, Mends, ErrorsMended}
 use Rattle.verdict.proofs.Mended.{errors-mended}
-use Rattle.book.specs.Book.{Back, ask-name, verdict, accepted, wrote, refused, Book, standing, or-error, result-by, book-result}
+use Rattle.book.specs.Book.{Book, walks, book-result}
 use Rattle.book.specs.BookClaims.{book-after}
 use Rattle.book.specs.MendedCalls.{AnswersMend, CallsMended}
-use Rattle.book.proofs.BookLaws.{verdict-walked, or-error-completes}
 
--- ------------------------------------------------------------------ a result that is a verdict
-
-verdict-told : Back → Option Verdict
+verdict-told : Back Verdict → Option Verdict
 verdict-told (ask-name n) = nothing
 verdict-told (verdict v c) = just v
 verdict-told accepted = nothing
 verdict-told (wrote n) = nothing
-verdict-told (refused r) = nothing
+verdict-told (refused f) = nothing
 
--- the book then stands at it
-stands-at-verdict : (b : Book) (v : Verdict) (c : ℕ) → book-result b .back ≡ verdict v c → standing b ≡ has v
-unfolding book-result result-by verdict-told
-stands-at-verdict b v c e = go (standing b) (ap verdict-told e)
+-- a result that is a verdict: the book then stands at it, and it is that of separate walks over any completion
+verdict-walked : (b : Book) (v : Verdict) (c : ℕ) → book-result b .back ≡ verdict v c → (α : Name → Answer) → Completes α (b .run .taken) → value α (separate-walks (b .message)) ≡ v
+unfolding book-result result-of result-by verdict-told standing walks
+verdict-walked b v c e α agrees = has-value α (b .run .taken) agrees (separate-walks (b .message)) v (go (standing (walks b) (b .run)) (ap verdict-told e))
   where
-    go : (u : Standing Verdict) → verdict-told (result-by b u .back) ≡ just v → u ≡ has v
+    go : (u : Standing Verdict) → verdict-told (result-by (b .run) u .back) ≡ just v → u ≡ has v
     go (needs n) f = absurd (Option·none-ne-some v f)
     go (has x) f = ap has (Option·some-injective x v f)
 
--- ------------------------------------------------------------------ answers for every name
-
--- accepted answers, and others for the names that have none
-unfoldable first-of : Answers Answer → (Name → Answer) → Name → Answer
-first-of γ α n = elim (find γ n) [ nothing ↦ α n | just a ↦ a ]
-
-first-completes : (γ : Answers Answer) (α : Name → Answer) → Completes (first-of γ α) γ
-unfolding first-of
-first-completes γ α n a e = rw (e, first-of)
-
 pub calls-mended : CallsMended
-unfolding CallsMended AnswersMend ErrorsMended Mends or-error first-of is-lookup-error
-calls-mended m cs ds mend v w i j e f = rw (verdict-v, verdict-w) at (errors-mended m α β mends)
+unfolding CallsMended AnswersMend ErrorsMended Mends completed is-lookup-error
+calls-mended m n cs ds one mend v w i j e f = rw (verdict-v, verdict-w) at (errors-mended (book-after m cs .message) α β mends)
   where
+    γ : Answers Answer
+    γ = book-after m cs .run .taken
+
+    δ : Answers Answer
+    δ = book-after n ds .run .taken
+
     α : Name → Answer
-    α = or-error (book-after m cs .answers)
+    α = completed γ (λ _. lookup-error)
 
     β : Name → Answer
-    β = first-of (book-after m ds .answers) α
+    β = completed δ α
 
-    completes-α : Completes α (book-after m cs .answers)
-    completes-α = or-error-completes (book-after m cs .answers)
+    verdict-v : value α (separate-walks (book-after m cs .message)) ≡ v
+    verdict-v = verdict-walked (book-after m cs) v i e α (completes γ (λ _. lookup-error))
 
-    completes-β : Completes β (book-after m ds .answers)
-    completes-β = first-completes (book-after m ds .answers) α
+    verdict-w : value β (separate-walks (book-after m cs .message)) ≡ w
+    verdict-w = ap (λ x. value β (separate-walks x)) one ∙ verdict-walked (book-after n ds) w j f β (completes δ α)
 
-    verdict-v : value α (separate-walks m) ≡ v
-    verdict-v = verdict-walked m cs v (stands-at-verdict (book-after m cs) v i e) α completes-α
-
-    verdict-w : value β (separate-walks m) ≡ w
-    verdict-w = verdict-walked m ds w (stands-at-verdict (book-after m ds) w j f) β completes-β
-
-    mends : (n : Name) → is-lookup-error (α n) ≡ false → β n ≡ α n
-    mends n h = go (find (book-after m cs .answers) n) refl (find (book-after m ds .answers) n) refl
+    mends : (x : Name) → is-lookup-error (α x) ≡ false → β x ≡ α x
+    mends x h = go (find γ x) refl (find δ x) refl
       where
-        go : (x : Option Answer) → find (book-after m cs .answers) n ≡ x → (y : Option Answer) → find (book-after m ds .answers) n ≡ y → β n ≡ α n
-        go x p nothing q = rw (q, first-of)
-        go nothing p (just b) q = absurd (true≢false (rw (p, or-error) at h))
-        go (just a) p (just b) q = completes-β n b q ∙ mend n a b p q (ap is-lookup-error (sym (completes-α n a p)) ∙ h) ∙ sym (completes-α n a p)
+        go : (o : Option Answer) → find γ x ≡ o → (p : Option Answer) → find δ x ≡ p → β x ≡ α x
+        go o p nothing q = rw (q, completed)
+        go nothing p (just b) q = absurd (true≢false (rw (p, completed) at h))
+        go (just a) p (just b) q = completes δ α x b q ∙ mend x a b p q (ap is-lookup-error (sym (completes γ (λ _. lookup-error) x a p)) ∙ h) ∙ sym (completes γ (λ _. lookup-error) x a p)

@@ -1,99 +1,109 @@
--- What is claimed of 01's book book-after every list of calls (the mission, demand 3).
+-- What is claimed of the book after every list of calls (the mission, demand 3; document 02, Ask 8).
 use mathlib.Core.Path.{_≡_}
-use mathlib.Core.List.{List, [], _∷_, _++_}
-use mathlib.Core.Bool.{true, false}
-use mathlib.Core.Option.{Option, none as nothing, some as just}
-use Prim.Native.Nat.{_+_, _*_, _≤_, _<_}
+use mathlib.Core.List.{List, [], _∷_, _++_, map}
+use mathlib.Core.Bool.{Bool, true, false}
+use Prim.Native.Nat.{_+_, _*_, _≤_}
 use lib.ListN.{length}
-use Rattle.octets.specs.Octets.{Octets, is-nothing, same-text}
+use Rattle.octets.specs.Octets.{Octets, any}
+use Rattle.octets.specs.Refusing.{ok, refusal}
 use Rattle.octets.specs.declared.Refusal.{Refusal}
-use Rattle.octets.specs.Refusing.{refusal}
-use Rattle.lookup.specs.Lookup.{Name, value, once, list, names, needs, has, Completes}
-use Rattle.lookup.specs.Claims.{Distinct}
-use Rattle.txt.specs.declared.Status.{Status}
-use Rattle.txt.specs.Answers.{Answer, answer-of, texts, reply}
-use Rattle.domain.specs.Domain.{Domain, without-dot}
+use Rattle.lookup.specs.Lookup.{Name, once, list, needs, Completes}
+use Rattle.domain.specs.Domain.{Domain}
+use Rattle.txt.specs.Answers.{Answer, reply}
+use Rattle.asking.specs.Asking.{Back, ask-name, verdict, accepted, wrote, refused, Given, given, with-asked, standing, asked-names, count, transcript, leaves}
+use Rattle.asking.specs.Claims.{given-name, AskingClaims}
 use Rattle.walk.specs.Walk.{organizational-domain}
 use Rattle.verdict.specs.Message.{Message}
-use Rattle.verdict.specs.Verdict.{Verdict, separate-walks}
-use Rattle.book.specs.Book.{Call, next, result, answer, field, Back, ask-name, verdict, accepted, wrote, refused, Given, given, Book, opened, with-asked, standing, or-error, count, book-next, book-result, book-field, book-answer, book-call, transcript, leaves}
+use Rattle.verdict.specs.Verdict.{Verdict}
 use Rattle.verdict.specs.Claims.{walked-domains}
+use Rattle.book.specs.Start.{GivenIdentifier, GivenMessage, opening, Opened, adding, adding-each, single-start}
+use Rattle.book.specs.Book.{Call, add, next, result, answer, field, Book, opened, walks, add-by, hands-out, book-call}
 
--- the book book-after a list of calls
+-- ------------------------------------------------------------------ what the calls have given
+
+-- the book after a list of calls
 unfoldable pub book-after : Message → List Call → Book
 book-after m cs = leaves book-call (opened m) cs
 
--- the names that calls were given to ask
-unfoldable pub given-name : Back → List Name
-given-name (ask-name n) = n ∷ []
-given-name (verdict v c) = []
-given-name accepted = []
-given-name (wrote n) = []
-given-name (refused r) = []
+-- and what they gave
+unfoldable pub book-gave : Message → List Call → List (Given Verdict)
+book-gave m cs = transcript book-call (opened m) cs
 
-unfoldable pub given-names : List Given → List Name
+-- the names that calls were given to ask
+unfoldable pub given-names : List (Given Verdict) → List Name
 given-names [] = []
 given-names (g ∷ gs) = given-name (g .back) ++ given-names gs
 
--- the names asked, as the book has them: those answered, and the one now asked
-unfoldable pub now-asked : Option Name → List Name
-now-asked nothing = []
-now-asked (just n) = n ∷ []
+-- whether one of them gave "the first name or the verdict"
+unfoldable pub any-handed-out : List (Given Verdict) → Bool
+any-handed-out gs = any (λ g. hands-out (g .back)) gs
 
-unfoldable pub asked-names : Book → List Name
-asked-names b = names (b .answers) ++ now-asked (b .asked)
+-- the identifiers that were added: those of the addings that were accepted
+unfoldable pub accepted-adding : Call → Back Verdict → List GivenIdentifier
+accepted-adding (add g) accepted = g ∷ []
+accepted-adding (add g) (ask-name n) = []
+accepted-adding (add g) (verdict v c) = []
+accepted-adding (add g) (wrote n) = []
+accepted-adding (add g) (refused f) = []
+accepted-adding next k = []
+accepted-adding result k = []
+accepted-adding (answer name status bytes scratch) k = []
+accepted-adding (field output) k = []
 
--- the verdict stands, or it comes book-after the next step and whatever answer is accepted then
-pub data Comes : Book → Type 0 where
-  arrived : {b : Book} (v : Verdict) → standing b ≡ has v → Comes b
-  goes-on : {b : Book} (n : Name) → book-next b .1 .back ≡ ask-name n
-      → ((name : Octets) (status : Status) (bytes scratch : Octets) → book-answer (book-next b .0) name status bytes scratch .1 .back ≡ accepted
-      → Comes (book-answer (book-next b .0) name status bytes scratch .0))
-      → Comes b
-
--- "A lookup without an answer is never read as an empty one": while a name lacks an answer it is asked, and there is no verdict
-pub record NoVerdictYet (b : Book) : Type 0 where
-  pub asks : (n : Name) → standing b ≡ needs n → book-next b ≡ (with-asked b n, given (ask-name n) [])
-  pub no-result : (n : Name) → standing b ≡ needs n → book-result b ≡ given (refused (refusal 7 0)) []
-  pub no-field : (n : Name) (output : Octets) → standing b ≡ needs n → book-field b output ≡ given (refused (refusal 7 0)) output
+unfoldable pub accepted-addings : List Call → List (Given Verdict) → List GivenIdentifier
+accepted-addings [] gs = []
+accepted-addings (c ∷ cs) [] = []
+accepted-addings (c ∷ cs) (g ∷ gs) = accepted-adding c (g .back) ++ accepted-addings cs gs
 
 -- the memory that a call lends
 unfoldable pub lent : Call → Octets
+lent (add g) = []
 lent next = []
 lent result = []
 lent (answer name status bytes scratch) = scratch
 lent (field output) = output
 
+-- ------------------------------------------------------------------ the claims
+
 pub record BookClaims (m : Message) (cs : List Call) : Type 0 where
   -- the names that the calls were given to ask, each once, are those that the book has as asked
-  pub asked : asked-names (book-after m cs) ≡ once [] (given-names (transcript book-call (opened m) cs))
-  -- ".. in 01's order, each once"
-  pub each-once : Distinct (asked-names (book-after m cs))
-  -- "At the verdict, the names asked are those that separate walks with no memory would ask over the accepted answers"
-  pub at-verdict : (v : Verdict) → standing (book-after m cs) ≡ has v → (α : Name → Answer) → Completes α (book-after m cs .answers)
-      → list α (separate-walks m) ≡ asked-names (book-after m cs)
-  -- "The verdict is the one those separate walks give"
-  pub that-verdict : (v : Verdict) → standing (book-after m cs) ≡ has v → (α : Name → Answer) → Completes α (book-after m cs .answers)
-      → value α (separate-walks m) ≡ v
-  -- "The reported count is their number"
-  pub counted : (v : Verdict) → standing (book-after m cs) ≡ has v → count (book-after m cs) ≡ length (asked-names (book-after m cs))
+  pub asked : asked-names (book-after m cs .run) ≡ once [] (given-names (book-gave m cs))
+  -- what is claimed of every run by calls, "about the identifiers as they then stand"
+  pub of-its-run : AskingClaims (walks (book-after m cs)) (book-after m cs .run)
   -- "at most eight for the author domain, and eight more for each distinct passing domain that 01 says must be walked"
-  pub bounded : count (book-after m cs) ≤ 8 + 8 * length (walked-domains (λ n. reply (or-error (book-after m cs .answers) n)) m)
+  pub bounded : (α : Name → Answer) → Completes α (book-after m cs .run .taken)
+      → (count (book-after m cs .run) ≤ length (list α (walks (book-after m cs))))
+      × (length (list α (walks (book-after m cs))) ≤ 8 + 8 * length (walked-domains (λ n. reply (α n)) (book-after m cs .message)))
   -- each walk by itself: "at most eight for the author domain", and for every other
-  pub each-walk : (d : Domain) → length (list (λ n. reply (or-error (book-after m cs .answers) n)) (organizational-domain d)) ≤ 8
-  -- "Until then, the names asked so far are the first of those, whatever the missing answers may be"
-  pub until-then : (α : Name → Answer) → Completes α (book-after m cs .answers) → (rest : List Name) × (list α (separate-walks m) ≡ asked-names (book-after m cs) ++ rest)
-  -- "Asked and answered in turn, every run comes to its verdict"
-  pub comes : Comes (book-after m cs)
-  -- "exactly with the accepted answer to its last name": not book-after it, since the list has more names than were answered while one lacks an answer
-  pub not-after : (n : Name) → standing (book-after m cs) ≡ needs n → (α : Name → Answer) → Completes α (book-after m cs .answers)
-      → length (names (book-after m cs .answers)) < length (list α (separate-walks m))
-  -- and not before it, since at the verdict every name of the list is answered
-  pub answered : (v : Verdict) → standing (book-after m cs) ≡ has v → (α : Name → Answer) → Completes α (book-after m cs .answers) → list α (separate-walks m) ≡ names (book-after m cs .answers)
-  -- an answer that can be read, for the name now asked, in either case and with a final dot or without, with scratch enough, is accepted
-  pub accepts : (n : Name) → book-after m cs .asked ≡ just n → (name : Octets) → same-text (without-dot name) n ≡ true
-      → (status : Status) (bytes scratch : Octets) → is-nothing (texts (answer-of status bytes)) ≡ false → 4096 ≤ length scratch
-      → book-answer (book-after m cs) name status bytes scratch .1 .back ≡ accepted
+  pub each-walk : (α : Name → Answer) (d : Domain) → length (list (λ n. reply (α n)) (organizational-domain d)) ≤ 8
   -- "A refusal leaves the evaluation and lent memory unchanged"
-  pub refused-stands : (c : Call) (r : Refusal) → book-call (book-after m cs) c .1 .back ≡ refused r
-      → (book-call (book-after m cs) c .0 ≡ book-after m cs) × (book-call (book-after m cs) c .1 .memory ≡ lent c)
+  pub refused-stands : (c : Call) (f : Refusal) → book-call (book-after m cs) c .1 .back ≡ refused f → book-call (book-after m cs) c ≡ (book-after m cs, given (refused f) (lent c))
+  -- "Identifiers may be added until the first name or the verdict has been handed out"
+  pub in-time : any-handed-out (book-gave m cs) ≡ false → (g : GivenIdentifier) → book-call (book-after m cs) (add g) ≡ add-by (book-after m cs) (adding (book-after m cs .message) g)
+  -- "17 too late, .. before those"
+  pub too-late : any-handed-out (book-gave m cs) ≡ true → (g : GivenIdentifier) → book-call (book-after m cs) (add g) ≡ (book-after m cs, given (refused (refusal 17 0)) [])
+  -- "the identifiers as they then stand": the message is the opening's with the accepted addings, in order
+  pub as-they-stand : adding-each m (accepted-addings cs (book-gave m cs)) ≡ ok (book-after m cs .message)
+  -- "up to 16 identifiers"
+  pub up-to-16 : length (book-after m cs .message .identifiers) ≤ 16
+
+-- "from an accepted opening on"
+unfoldable pub BookClaimed : Type 0
+BookClaimed = (m : Message) → Opened m → (cs : List Call) → BookClaims m cs
+
+-- "Opening and adding in order gives the state that the single start gave"
+unfoldable pub SameState : Type 0
+SameState =
+    (g : GivenMessage) (m n : Message) → opening (g .author) (g .existence) (g .support) ≡ ok m → single-start g ≡ ok n
+    → book-after m (map add (g .identifiers)) ≡ opened n
+
+-- of every book, a next step hands out a name or the verdict, and so it closes the adding
+unfoldable pub NextCloses : Type 0
+NextCloses = (b : Book) → (hands-out (book-call b next .1 .back) ≡ true) × (book-call b next .0 .handed-out ≡ true)
+
+-- "A lookup without an answer is never read as an empty one": while a name lacks an answer it is asked, and there is no verdict
+pub record NothingYet (b : Book) : Type 0 where
+  pub asks : (n : Name) → standing (walks b) (b .run) ≡ needs n
+      → book-call b next ≡ (record { message = b .message; handed-out = true; run = with-asked (b .run) n }, given (ask-name n) [])
+  pub no-result : (n : Name) → standing (walks b) (b .run) ≡ needs n → book-call b result ≡ (b, given (refused (refusal 7 0)) [])
+  pub no-field : (n : Name) (output : Octets) → standing (walks b) (b .run) ≡ needs n → book-call b (field output) ≡ (b, given (refused (refusal 7 0)) output)

@@ -6,10 +6,11 @@ use mathlib.Core.Option.{some as just}
 use Prim.Native.Nat.{ℕ}
 use Rattle.lookup.specs.Lookup.{Name, Answers, find}
 use Rattle.txt.specs.Answers.{Answer}
+use Rattle.asking.specs.Asking.{verdict}
 use Rattle.verdict.specs.Message.{Message}
 use Rattle.verdict.specs.Verdict.{Verdict}
 use Rattle.verdict.specs.Mending.{is-lookup-error, ErrorClaims}
-use Rattle.book.specs.Book.{Call, verdict, book-result}
+use Rattle.book.specs.Book.{Call, book-result}
 use Rattle.book.specs.BookClaims.{book-after}
 
 -- "the second being the first with any real answers for some or all errors", of accepted answers: where both have one for a name and the
@@ -17,10 +18,10 @@ use Rattle.book.specs.BookClaims.{book-after}
 unfoldable pub AnswersMend : (first second : Answers Answer) → Type 0
 AnswersMend β γ = (n : Name) (a b : Answer) → find β n ≡ just a → find γ n ≡ just b → is-lookup-error a ≡ false → b ≡ a
 
--- for "one message" and two lists of calls, refused ones too, after each of which the result is a verdict (so every name that its walks ask
--- has an answer)
+-- for two lists of calls, refused ones too, that come to "one message" and after each of which the result is a verdict (so every name that its
+-- walks ask has an answer)
 unfoldable pub CallsMended : Type 0
 CallsMended =
-    (m : Message) (cs ds : List Call) → AnswersMend (book-after m cs .answers) (book-after m ds .answers)
-    → (v w : Verdict) (count-v count-w : ℕ) → book-result (book-after m cs) .back ≡ verdict v count-v → book-result (book-after m ds) .back ≡ verdict w count-w
+    (m n : Message) (cs ds : List Call) → book-after m cs .message ≡ book-after n ds .message → AnswersMend (book-after m cs .run .taken) (book-after n ds .run .taken)
+    → (v w : Verdict) (count-v count-w : ℕ) → book-result (book-after m cs) .back ≡ verdict v count-v → book-result (book-after n ds) .back ≡ verdict w count-w
     → ErrorClaims v w

@@ -25,7 +25,8 @@ use Rattle.verdict_cursor.specs.code.Cursor.{stands}
 use Rattle.evaluation.specs.declared.Evaluation.{Evaluation}
 use Rattle.evaluation.specs.declared.Step.{Step}
 use Rattle.evaluation.specs.declared.Resulting.{Resulting}
-use Rattle.book.specs.Book.{next, given}
+use Rattle.asking.specs.Asking.{given}
+use Rattle.book.specs.Book.{next}
 use Rattle.evaluation.specs.code.Machine.{keeps-nothing, keeps-opened, next-at, judged-by, judged-at, judged, result-back, machine-call}
 use Rattle.evaluation.specs.code.View.{message-now, replies-now, cursor-now, handed-view, view-by, view, begin-of-slot, Does, step-back, resulting-back, resulting-in, ResultFixed, DoesResult}
 
@@ -33,7 +34,7 @@ use Rattle.evaluation.specs.code.View.{message-now, replies-now, cursor-
 
 pub next-not-started : (e : Evaluation) → e .started ≡ false → Does e next e (given (step-back e (Step.Refused (refusal 7 0))) [])
 unfolding machine-call next-at view view-by keeps-nothing step-back
-next-not-started e s = record { leaves = rw s; gives = rw s; stands = λ x. refl; same-domains = (refl, refl) }
+next-not-started e s = record { leaves = rw s; gives = rw s; stands = λ x. refl; same-domains = λ x. (refl, refl) }
 
 -- ------------------------------------------------------------------ kept answers
 
@@ -76,7 +77,7 @@ replies-length e full = kept-length (e .domains) (e .count) 136 (e .kept) full
 module _ (e : Evaluation) where
   pub result-refused : (f : Refusal) → judged (view e) ≡ not-ok f → DoesResult e (Resulting.Refused f)
   unfolding machine-call result-back resulting-back resulting-in ResultFixed
-  result-refused f h = record { does = record { leaves = refl; gives = rw h; stands = λ x. refl; same-domains = (refl, refl) }; says = sym h; fixed = tt }
+  result-refused f h = record { does = record { leaves = refl; gives = rw h; stands = λ x. refl; same-domains = λ x. (refl, refl) }; says = sym h; fixed = tt }
 
   pub result-not-started : e .started ≡ false → DoesResult e (Resulting.Refused (refusal 7 0))
   unfolding view view-by keeps-nothing judged judged-at
@@ -107,7 +108,7 @@ module _ (e : Evaluation) where
       result-verdict j u x full n f =
           let done : judged (view e) ≡ ok (message-now e, verdict-in (message-now e) j) = rw (judged-standing-now, ← u) in
           let count : n ≡ length (view e .replies) = f ∙ sym (replies-length e full) ∙ ap length (sym replies-kept) in
-          record { does = record { leaves = refl; gives = rw (done, count); stands = λ x. refl; same-domains = (refl, refl) }; says = sym done; fixed = x }
+          record { does = record { leaves = refl; gives = rw (done, count); stands = λ x. refl; same-domains = λ x. (refl, refl) }; says = sym done; fixed = x }
 
 -- ------------------------------------------------------------------ the target that a walk and a place mark, among the stored domains
 
@@ -135,10 +136,6 @@ module _ (domains : Octets) (numbers : List ℕ) (walk : ℕ) where
       go : Dec (walk ≤ 16) → slot domains numbers walk ≡ take (length (slot domains numbers walk)) (drop (begin-of-slot walk) domains)
       go (yes h) = rw (le-leb walk 16 h) (take-own (min (getD numbers (0 + walk) 0) 253) (drop (253 * walk) domains))
       go (no h) = rw (lt-leb walk 16 (omega arith))
-
-  pub slot-small : length (slot domains numbers walk) ≤ 253
-  unfolding slot
-  slot-small = omega (arith, length-take (min (number-at numbers 0 walk) 253) (drop (253 * walk) domains))
 
   -- where the target lies that begins at a place of a walk's domain
   pub mark-stored : (place begin size from : ℕ) → begin ≡ begin-of-slot walk → size ≡ length (slot domains numbers walk) → from ≡ min place size

@@ -3,13 +3,13 @@ use mathlib.Core.Path.{_≡_, refl, ap, sym, _∙_}
 use mathlib.Core.List.{List, [], _∷_, _++_}
 use Rattle.verdict.specs.Message.{Message}
 use Rattle.verdict.specs.Verdict.{Verdict}
-use Rattle.book.specs.Book.{Call, result, verdict, Given, opened, book-result, book-call, transcript, leaves}
+use Rattle.asking.specs.Asking.{verdict, Given, transcript, leaves}
+use Rattle.book.specs.Book.{Call, result, opened, book-result, book-call}
 use Rattle.book.specs.BookClaims.{book-after}
 use Rattle.book.specs.MendedCalls.{CallsMended}
 use Rattle.book.proofs.Mended.{calls-mended}
-use Rattle.evaluation.specs.code.View.{Changes, started-view, given-message}
+use Rattle.evaluation.specs.code.View.{Changes, opened-view}
 use Rattle.evaluation.specs.MendedRuns.{Judged, RunsMended}
-use Rattle.evaluation.proofs.SoundLaws.{accepted-sound}
 use Rattle.evaluation.proofs.MachineLaws.{as-the-book}
 
 -- ------------------------------------------------------------------ what the last call gave
@@ -30,13 +30,13 @@ last-given step s (d ∷ cs) c x = last-given step (step s d .0) cs c (step s d 
 
 -- it is the book's result
 result-given : (m : Message) (cs : List Call) (v : Verdict) (j : Judged m cs v) → book-result (book-after m cs) .back ≡ verdict v (j .count)
-unfolding book-after book-call Changes started-view
+unfolding book-after book-call Changes opened-view
 result-given m cs v j =
-    let opens = (rw (j .accepts) at (j .starts)) .1 in
-    let all = as-the-book m (accepted-sound (given-message (j .author) (j .existence) (j .support) (j .packed)) m (j .accepts)) opens (j .ran) in
-    ap (λ (g : Given). g .back) (sym (last-given book-call (opened m) cs result (j .last)) ∙ ap (last-of (j .last)) (sym all) ∙ last-added (j .last) (j .gave) (j .last))
+    let opens = (rw (j .accepts) at (j .opens)) .1 in
+    let all = as-the-book m (record { author = j .author; existence = j .existence; support = j .support; accepts = j .accepts }) opens (j .ran) in
+    ap (λ (g : Given Verdict). g .back) (sym (last-given book-call (opened m) cs result (j .last)) ∙ ap (last-of (j .last)) (sym all) ∙ last-added (j .last) (j .gave) (j .last))
     ∙ j .says
 
 pub runs-mended : RunsMended
 unfolding RunsMended CallsMended
-runs-mended m cs ds mend v w j k = calls-mended m cs ds mend v w (j .count) (k .count) (result-given m cs v j) (result-given m ds w k)
+runs-mended m n cs ds one mend v w j k = calls-mended m n cs ds one mend v w (j .count) (k .count) (result-given m cs v j) (result-given n ds w k)

@@ -6,24 +6,21 @@ use Rattle.verdict_cursor.specs.code.Cursor.{Cursor, stores}
 use Rattle.verdict_cursor.proofs.CursorLaws.{cursor-claims}
 use Rattle.book.specs.Book.{Book}
 use Rattle.book.specs.BookClaims.{book-after}
-use Rattle.book.proofs.BookLaws.{message-after}
 use Rattle.evaluation.specs.code.Machine.{Keeps}
-use Rattle.evaluation.specs.code.View.{Changes, started-view, given-message}
+use Rattle.evaluation.specs.code.View.{Changes, opened-view}
 use Rattle.evaluation.specs.code.Showing.{shows, Beside}
 use Rattle.evaluation.specs.StoredAfter.{replies, RunsStore}
-use Rattle.evaluation.proofs.SoundLaws.{accepted-sound}
 use Rattle.evaluation.proofs.MachineLaws.{left-as-the-book}
 
 -- beside a book
-stored-beside : (b : Book) (o : Option Cursor) → Beside b o → (c : Cursor) → o ≡ just c → StoredRight (replies (b .answers)) (b .message) (stores (b .message) c)
+stored-beside : (b : Book) (o : Option Cursor) → Beside b o → (c : Cursor) → o ≡ just c → StoredRight (replies (b .run .taken)) (b .message) (stores (b .message) c)
 unfolding Beside
 stored-beside b nothing h c e = absurd (Option·none-ne-some c e)
 stored-beside b (just d) h c e =
-    subst (λ x. StoredRight (replies (b .answers)) (b .message) (stores (b .message) x)) (Option·some-injective d c e) (cursor-claims (replies (b .answers)) (b .message) .stored d (h .0))
+    subst (λ x. StoredRight (replies (b .run .taken)) (b .message) (stores (b .message) x)) (Option·some-injective d c e) (cursor-claims (replies (b .run .taken)) (b .message) .stored d (h .1))
 
 pub runs-store : RunsStore
-unfolding RunsStore Changes started-view shows
-runs-store author existence support packed before r starts m s cs e left c at-c =
-    let w = left-as-the-book m (accepted-sound (given-message author existence support packed) m s) ((rw s at starts) .1) left in
-    let here = sym (ap (λ (k : Keeps). k .at) (w .keeps)) ∙ at-c in
-    subst (λ x. StoredRight (replies (book-after m cs .answers)) x (stores x c)) (message-after m cs) (stored-beside (book-after m cs) (w .stands-at) (w .beside) c here)
+unfolding RunsStore Changes opened-view shows
+runs-store author existence support before r opens m s cs e left c at-c =
+    let w = left-as-the-book m (record { author = author; existence = existence; support = support; accepts = s }) ((rw s at opens) .1) left in
+    stored-beside (book-after m cs) (w .stands-at) (w .beside) c (sym (ap (λ (k : Keeps). k .at) (w .keeps)) ∙ at-c)

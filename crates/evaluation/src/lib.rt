@@ -51,7 +51,7 @@ pub enum Acceptance {
     Refused(Refusal),
 }
 
-// What a start or an answer gives: the evaluation goes on from here.
+// What an opening, an adding or an answer gives: the evaluation goes on from here.
 pub struct Changed {
     pub evaluation: Evaluation,
     pub acceptance: Acceptance,

@@ -1,13 +1,16 @@
 // The adding of one identifier.
 ghost use mathlib.Core.Path.{_≡_};
+ghost use mathlib.Core.List.{[]};
 ghost use Prim.Native.Nat.{_<_, _≤_, min};
 ghost use lib.ListN.{length};
 ghost use Rattle.octets.specs.Octets.{Octets, any, lower};
 ghost use Rattle.alignment_stored.specs.code.Stored.{kind-in, outcome-in, stored-identifiers};
 ghost use Rattle.verdict.specs.Message.{Message};
-ghost use Rattle.book.specs.Start.{is-spf};
+ghost use Rattle.asking.specs.Asking.{given};
+ghost use Rattle.book.specs.Start.{is-spf, with-identifier, adding};
+ghost use Rattle.book.specs.Book.{add};
+ghost use Rattle.evaluation.specs.code.View.{Does, acceptance-back};
 ghost use Rattle.evaluation_open.specs.code.Opening.{Holds, Opens};
-ghost use Rattle.evaluation_add.specs.code.Adding.{with-identifier, adding};
 use alignment::Kind;
 use evaluation::Acceptance;
 use evaluation::Changed;
@@ -57,8 +60,8 @@ fn store(e: Evaluation, kind: u8, outcome: u8, d: &[u8]) -> Evaluation
     after
 }
 
-// Adds an identifier.
-pub fn add(e: Evaluation, kind: u8, outcome: u8, domain: &[u8]) -> Changed
+// Adds an identifier to an evaluation that holds a message and nothing more.
+fn add_to(e: Evaluation, kind: u8, outcome: u8, domain: &[u8]) -> Changed
     ensures { λ r. ⌜ ((m : Message) → Holds e m → Opens e (adding m (record { kind = kind; outcome = outcome; domain = now (domain .entry) })) r) ⌝ }
 {
     let terms = e.terms;
@@ -85,4 +88,17 @@ pub fn add(e: Evaluation, kind: u8, outcome: u8, domain: &[u8]) -> Changed
         evaluation: store(e, kind, outcome, d),
         acceptance: Acceptance::Accepted,
     }
+}
+
+// Adds an identifier, until a name was given to ask.
+pub fn add(e: Evaluation, kind: u8, outcome: u8, domain: &[u8]) -> Changed
+    ensures { λ r. ⌜ Does e (add (record { kind = kind; outcome = outcome; domain = now (domain .entry) })) (r .evaluation) (given (acceptance-back (r .acceptance)) []) ⌝ }
+{
+    if !e.started {
+        return evaluation_state::refused(e, 17, 0);
+    }
+    if e.handed {
+        return evaluation_state::refused(e, 17, 0);
+    }
+    add_to(e, kind, outcome, domain)
 }

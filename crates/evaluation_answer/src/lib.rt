@@ -1,5 +1,6 @@
 // An answer for the name now asked.
-ghost use Rattle.book.specs.Book.{answer, given};
+ghost use Rattle.asking.specs.Asking.{given};
+ghost use Rattle.book.specs.Book.{answer};
 ghost use Rattle.evaluation.specs.code.View.{Does, acceptance-back};
 use evaluation::Acceptance;
 use evaluation::Changed;

@@ -4,7 +4,7 @@ ghost use mathlib.Core.Bool.{true};
 ghost use Rattle.evaluation_first.specs.code.Pointing.{Points};
 use evaluation::Evaluation;
 
-// A started evaluation at its next step, with the name asked that it lacks there: where it stands, or where it begins.
+// An opened evaluation at its next step, with the name asked that it lacks there: where it stands, or where it begins.
 pub fn point(e: Evaluation) -> Evaluation
     ensures { λ r. ⌜ (e .started ≡ true → Points e r) ⌝ }
 {

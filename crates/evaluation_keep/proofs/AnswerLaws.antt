@@ -26,7 +26,8 @@ use Rattle.verdict_cursor.specs.declared.Position.{Position}
 use Rattle.verdict_cursor.specs.code.Cursor.{stands, needed}
 use Rattle.verdict_cursor.specs.code.Standing.{Moves}
 use Rattle.verdict_cursor.specs.code.Positions.{place-in}
-use Rattle.book.specs.Book.{answer, given, refused}
+use Rattle.asking.specs.Asking.{given, refused}
+use Rattle.book.specs.Book.{answer}
 use Rattle.evaluation.specs.declared.Evaluation.{Evaluation}
 use Rattle.evaluation.specs.declared.Acceptance.{Acceptance}
 use Rattle.evaluation.specs.code.Machine.{Keeps, keeps-nothing, keeps-opened, moved, keeping, answer-taken, has-room, answer-at, machine-call}
@@ -128,7 +129,7 @@ module _ (e : Evaluation) where
       unfolding machine-call acceptance-back
       answer-not-now h =
           let by = refused-by name (view e) (answer-of status bytes) scratch (view e .asked) (sym (answered-view name) ∙ h) in
-          record { leaves = rw by; gives = rw by; stands = λ x. refl; same-domains = (refl, refl) }
+          record { leaves = rw by; gives = rw by; stands = λ x. refl; same-domains = λ x. (refl, refl) }
 
       module _ {n : Name} (now : answered-in name ≡ just n) (after : Octets) where
         answer-takes : (t : Taken) → Takes (answer-of status bytes) scratch t after → machine-call (view e) (answer name status bytes scratch) ≡ answer-taken (view e) n after t
@@ -139,7 +140,7 @@ module _ (e : Evaluation) where
         unfolding answer-taken acceptance-back
         answer-refused f takes =
             let by = answer-takes (Taken.Refused f) takes in
-            record { leaves = rw by; gives = rw by; stands = λ x. refl; same-domains = (refl, refl) }
+            record { leaves = rw by; gives = rw by; stands = λ x. refl; same-domains = λ x. (refl, refl) }
 
       module _ (walk : ℕ) (place : Octet) (now : answered-in name ≡ just (marked e walk place)) (after : Octets) (r : Reply) (later : Evaluation) (accepts : Accepts e walk place r later) where
         now-live : (e .started ≡ true) × (e .handed ≡ true) × (e .count < 136)
@@ -169,7 +170,7 @@ module _ (e : Evaluation) where
         unfolding answer-taken acceptance-back changing
         answer-accepted takes =
             let by = answer-takes now after (Taken.Reply r) takes in
-            record { leaves = kept-on ∙ rw by; gives = rw by; stands = λ x. absurd (false≢true (sym x)); same-domains = (accepts .domains, accepts .numbers) }
+            record { leaves = kept-on ∙ rw by; gives = rw by; stands = λ x. absurd (false≢true (sym x)); same-domains = λ x. (accepts .domains, accepts .numbers) }
 
 -- ------------------------------------------------------------------ the reply kept, and where it stands moved on
 

@@ -4,7 +4,9 @@ ghost use mathlib.Core.List.{[]};
 ghost use Prim.Native.Nat.{_≤_};
 ghost use lib.ListN.{length};
 ghost use Rattle.octets.specs.Octets.{lower};
-ghost use Rattle.evaluation_open.specs.code.Opening.{existence-in, opening, Holds, Opens};
+ghost use Rattle.book.specs.Start.{opening};
+ghost use Rattle.evaluation.specs.code.View.{Changes, opened-view};
+ghost use Rattle.evaluation_open.specs.code.Opening.{existence-in, Holds};
 use domain_rule::Checked;
 use evaluation::Acceptance;
 use evaluation::Changed;
@@ -49,7 +51,7 @@ fn hold(e: Evaluation, author: &[u8], existence: u8, support: bool) -> Evaluatio
 
 // Opens an evaluation of a message without identifiers.
 pub fn open(e: Evaluation, author: &[u8], existence: u8, support: u8) -> Changed
-    ensures { λ r. ⌜ Opens e (opening (now (author .entry)) existence support) r ⌝ }
+    ensures { λ r. ⌜ Changes e (opened-view (opening (now (author .entry)) existence support)) r ⌝ }
 {
     let d = domain_taken::without_dot(author);
     match domain_rule::check(d) {

@@ -1,4 +1,4 @@
-// An evaluation that is not started, a refusal, and the names and domains that one holds.
+// An evaluation that is not opened, a refusal, and the names and domains that one holds.
 ghost use mathlib.Core.Path.{_≡_};
 ghost use lib.ListN.{drop};
 ghost use Rattle.octets.specs.Octets.{lower};
@@ -21,7 +21,7 @@ use verdict_cursor::PlaceKind;
 use verdict_cursor::Position;
 use verdict_judgement::Terms;
 
-// An evaluation in which nothing was started and no name is asked.
+// An evaluation in which nothing was opened and no name is asked.
 pub fn empty() -> Evaluation
     ensures { λ r. ⌜ r ≡ blank ⌝ }
 {

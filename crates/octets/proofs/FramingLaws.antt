@@ -1,16 +1,15 @@
 -- Laws of the record at the front of a text, as code takes it.
-use mathlib.Core.Path.{_≡_, ap₂, sym, _∙_}
+use mathlib.Core.Path.{_≡_, sym, _∙_}
 use mathlib.Core.List.{[], _∷_}
 use mathlib.Core.Bool.{Bool, true, false, _&&_, and-true}
-use Prim.Native.Nat.{ℕ, _+_, _-_, _*_, _≤_, _<_}
+use Prim.Native.Nat.{ℕ, _+_, _-_, _≤_, _<_}
 use native.Mathlib.Omega.{arith}
 use lib.Dec.{eqb}
 use lib.ListN.{length, take, drop, getD, length-drop}
-use lib.Seq.{length-take-le, getD-take, getD-drop, take-take}
+use lib.Seq.{length-take-le, getD-take, getD-drop}
 use borrow.Author.Tests.{le-leb, lt-leb, leb-true}
 use Rattle.octets.specs.Octets.{Octets, same, part-of}
 use Rattle.octets.specs.Framing.{mark-of, size-of, body-of, after-record, is-whole}
-use Rattle.octets.proofs.ListLaws.{drop-take}
 
 -- ------------------------------------------------------------------ its parts
 
@@ -57,9 +56,6 @@ module _ (t : Octets) where
   unfolding after-record
   after-length = length-drop (4 + size-of t) t
 
-  pub rest-shorter : (rest : Octets) → rest ≡ after-record t → length rest ≤ length t
-  rest-shorter rest e = rw e (omega (arith, after-length))
-
   -- an octet of a body
   pub body-octet : (i : ℕ) → i < size-of t → getD (body-of t) i 0 ≡ getD t (4 + i) 0
   unfolding body-of
@@ -67,22 +63,3 @@ module _ (t : Octets) where
 
 pub after-shorter : (x : ℕ) (xs : Octets) → length (after-record (x ∷ xs)) ≤ length xs
 after-shorter x xs = omega (arith, after-length (x ∷ xs))
-
--- ------------------------------------------------------------------ of a front part that ends n octets after it
-
-module _ (t : Octets) (n : ℕ) where
-  pub front-size : size-of (take (4 + size-of t + n) t) ≡ size-of t
-  unfolding size-of
-  front-size = ap₂ (λ (a b : ℕ). a * 256 + b) (getD-take (4 + size-of t + n) t 2 0 (omega arith)) (getD-take (4 + size-of t + n) t 3 0 (omega arith))
-
-  pub front-body : body-of (take (4 + size-of t + n) t) ≡ body-of t
-  unfolding body-of
-  front-body =
-      let f : 4 + size-of t + n - 4 ≡ size-of t + n = omega arith in
-      rw (front-size, drop-take 4 (4 + size-of t + n) t, f) (take-take (size-of t) (size-of t + n) (drop 4 t) (omega arith))
-
-  pub front-rest : after-record (take (4 + size-of t + n) t) ≡ take n (after-record t)
-  unfolding after-record
-  front-rest =
-      let f : 4 + size-of t + n - (4 + size-of t) ≡ n = omega arith in
-      rw (front-size, drop-take (4 + size-of t) (4 + size-of t + n) t, f)

@@ -1,22 +1,20 @@
 -- Laws of records where they lie, as code takes them.
-use mathlib.Core.Path.{_≡_, refl, ap, sym, _∙_}
-use mathlib.Core.List.{[]}
+use mathlib.Core.Path.{_≡_, refl, ap, _∙_}
+use mathlib.Core.List.{[], _∷_}
 use mathlib.Core.Bool.{true, false}
 use mathlib.Core.Option.{none as nothing, some as just}
 use Prim.Native.Nat.{ℕ, zero, suc, _+_, _-_, _≤_, _<_}
-use native.Mathlib.Decide.{decLe}
 use native.Mathlib.Omega.{arith}
 use lib.Dec.{eqb}
-use lib.ListN.{length, take, drop, getD}
-use lib.Seq.{drop-cons, take-all}
+use lib.ListN.{length, drop, getD}
+use lib.Seq.{drop-cons}
 use borrow.Author.Tests.{ne-eqb}
 use Rattle.octets.specs.Octets.{Octets, octets, same, same-text, part-of, if_then_else_}
-use Rattle.octets.specs.Framing.{mark-of, size-of, body-of, after-record}
-use Rattle.octets.proofs.FramingLaws.{after-length}
+use Rattle.octets.specs.Framing.{mark-of, body-of, after-record}
 use Rattle.domain.specs.Domain.{without-dot}
 use Rattle.txt.specs.declared.Status.{Status}
 use Rattle.records.specs.Sheet.{status-of}
-use Rattle.records_fields.specs.code.Layout.{name-in, answers-name, found-body, status-or-error, status-in, bytes-in, identifiers-size, identifiers-part}
+use Rattle.records_fields.specs.code.Layout.{name-in, answers-name, found-body, status-or-error, status-in, bytes-in, identifier-at, identified}
 
 -- ------------------------------------------------------------------ the parts of an answer
 
@@ -77,46 +75,20 @@ module _ (name t : Octets) where
 
 -- ------------------------------------------------------------------ the identifiers
 
--- none was passed: all are to be taken
-pub none-passed : (k : ℕ) (sheet all : Octets) → all ≡ after-record sheet → identifiers-part k sheet ≡ take (length all - length all + identifiers-size (k - 1) all) all
-unfolding identifiers-part
-none-passed k sheet all e =
-    let f : length all - length all + identifiers-size (k - 1) all ≡ identifiers-size (k - 1) all = omega arith in
-    rw (f, e)
-
--- what is to be taken of all, where those before t were passed
-module _ (all t : Octets) where
-  passed : (n : ℕ) → length t ≤ length all → same (mark-of t) (octets "ID") ≡ true
-      → take (length all - length t + identifiers-size (suc n) t) all ≡ take (length all - length (after-record t) + identifiers-size n (after-record t)) all
-  unfolding identifiers-size
-  passed n h e = rw e (go (decLe (4 + size-of t) (length t)))
-    where
-      go : Dec (4 + size-of t ≤ length t)
-          → take (length all - length t + (4 + size-of t + identifiers-size n (after-record t))) all ≡ take (length all - length (after-record t) + identifiers-size n (after-record t)) all
-      go (yes g) =
-          let rest = identifiers-size n (after-record t) in
-          let f : length all - length t + (4 + size-of t + rest) ≡ length all - length (after-record t) + rest = omega (arith, after-length t) in
-          rw f
-      go (no g) =
-          take-all (length all - length t + (4 + size-of t + identifiers-size n (after-record t))) all (omega arith)
-          ∙ sym (take-all (length all - length (after-record t) + identifiers-size n (after-record t)) all (omega (arith, after-length t)))
-
-  pub one-passed : (k : ℕ) → length t ≤ length all → 1 < k → same (mark-of t) (octets "ID") ≡ true
-      → take (length all - length t + identifiers-size (k - 1) t) all ≡ take (length all - length (after-record t) + identifiers-size (k - 1 - 1) (after-record t)) all
-  one-passed k h g e =
+-- those of the records after the author's, where k are left with it
+module _ (t : Octets) (k : ℕ) where
+  pub one-identified : 1 < k → same (mark-of t) (octets "ID") ≡ true → identified (k - 1) t ≡ identifier-at t ∷ identified (k - 1 - 1) (after-record t)
+  unfolding identified
+  one-identified h e =
       let more : k - 1 ≡ suc (k - 1 - 1) = omega arith in
-      ap (λ (n : ℕ). take (length all - length t + identifiers-size n t) all) more ∙ passed (k - 1 - 1) h e
+      ap (λ (n : ℕ). identified n t) more ∙ rw e
 
-  pub all-passed : (k : ℕ) → k ≤ 1 → take (length all - length t + identifiers-size (k - 1) t) all ≡ part-of all 0 (length all - length t)
-  unfolding identifiers-size part-of
-  all-passed k h =
-      let none : k - 1 ≡ 0 = omega arith in
-      let size : length all - length t + 0 ≡ length all - length t - 0 = omega arith in
-      rw none (rw size)
-
-  pub other-follows : (k : ℕ) → 1 < k → same (mark-of t) (octets "ID") ≡ false → take (length all - length t + identifiers-size (k - 1) t) all ≡ part-of all 0 (length all - length t)
-  unfolding identifiers-size part-of
-  other-follows k h e =
+  pub other-follows : 1 < k → same (mark-of t) (octets "ID") ≡ false → identified (k - 1) t ≡ []
+  unfolding identified
+  other-follows h e =
       let more : k - 1 ≡ suc (k - 1 - 1) = omega arith in
-      let size : length all - length t + 0 ≡ length all - length t - 0 = omega arith in
-      rw (more, e) (rw size)
+      ap (λ (n : ℕ). identified n t) more ∙ rw e
+
+  pub none-left : k ≤ 1 → identified (k - 1) t ≡ []
+  unfolding identified
+  none-left h = let none : k - 1 ≡ 0 = omega arith in rw none

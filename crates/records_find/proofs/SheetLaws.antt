@@ -6,23 +6,21 @@ use mathlib.Core.Option.{Option, none as nothing, some as just}
 use Prim.Native.Nat.{ℕ, zero, suc, _+_, _-_, _≤_, _<_}
 use native.Mathlib.Omega.{arith}
 use lib.Dec.{leb, ltb}
-use lib.ListN.{length, take, drop, getD, length-take}
+use lib.ListN.{length, take, drop}
 use borrow.Author.Tests.{lt-ltb}
 use Rattle.octets.specs.Octets.{Octets, octets, same, same-text, any, if_then_else_, is-empty}
 use Rattle.octets.specs.Framing.{mark-of, size-of, body-of, after-record}
 use Rattle.octets.specs.Refusing.{ok, refusal}
-use Rattle.octets.proofs.FramingLaws.{whole, body-size, body-octet, front-size, front-body, front-rest}
+use Rattle.octets.proofs.FramingLaws.{body-size, body-octet}
 use Rattle.octets.proofs.RefusingLaws.{refuse-if-ok}
 use Rattle.octets.proofs.TextLaws.{same-true}
 use Rattle.domain.specs.Domain.{without-dot, is-domain}
 use Rattle.txt.specs.declared.Status.{Status}
 use Rattle.txt.specs.Answers.{answer-of}
-use Rattle.book.specs.Start.{item-domain, item, unpacked}
 use Rattle.records.specs.declared.Phase.{Phase}
 use Rattle.records.specs.Sheet.{Entry, author-entry, identifier-entry, answer-entry, status-of, bytes-allowed, answer-in, entry-in, entry-of, phase-after, answered-name, entries-from, entries, identifiers-in, message-in, answer-at}
-use Rattle.records_fields.specs.code.Layout.{onto, listed, name-in, answers-name, found-body, status-or-error, status-in, bytes-in, identifiers-size, identifiers-part, Whole}
+use Rattle.records_fields.specs.code.Layout.{onto, listed, name-in, answers-name, found-body, status-or-error, status-in, bytes-in, identifier-at, identified, identifiers-on, message-on, Whole}
 use Rattle.records_fields.proofs.LayoutLaws.{other-mark, answer-mark, found-first, found-next}
-use Rattle.book.proofs.StartLaws.{unpacked-none, unpacked-next}
 use Rattle.records.proofs.EntryLaws.{Step, step-ok}
 
 -- ------------------------------------------------------------------ what an entry says of its record
@@ -165,21 +163,6 @@ before-law k sheet name h = found name (λ b. ltb 0 (length b)) (λ rs. any (λ 
     first mark body (identifier-entry k o d) rs q f = absurd (let z : _≡_ {A = ℕ} 0 1 = cc in omega arith)
     first mark body (answer-entry n s b) rs q f = rw f (lt-ltb 0 (length body) (q .there))
 
--- ------------------------------------------------------------------ packed identifiers
-
--- of a front part that ends n octets after a whole record
-module _ (t : Octets) (n : ℕ) where
-  module _ (h : 4 + size-of t ≤ length t) where
-    front-length : 4 + size-of t ≤ length (take (4 + size-of t + n) t)
-    front-length = rw length-take (omega arith)
-
-    front-item : item (take (4 + size-of t + n) t) ≡ record { kind = getD (body-of t) 0 255; outcome = getD (body-of t) 1 255; domain = drop 2 (body-of t) }
-    unfolding item item-domain
-    front-item = rw (front-body t n, whole (take (4 + size-of t + n) t) (rw (front-size t n) front-length))
-
-    front-unpacked : unpacked (take (4 + size-of t + n) t) ≡ record { kind = getD (body-of t) 0 255; outcome = getD (body-of t) 1 255; domain = drop 2 (body-of t) } ∷ unpacked (take n (after-record t))
-    front-unpacked = unpacked-next (take (4 + size-of t + n) t) (omega (arith, front-length)) ∙ ap₂ _∷_ front-item (ap unpacked (front-rest t n))
-
 -- ------------------------------------------------------------------ the message
 
 -- after an answer no identifiers follow
@@ -213,24 +196,20 @@ next-listed k (suc n) over phase seen place (x ∷ xs) e h =
 
 -- the identifiers of one record more
 module _ (k : ℕ) (t : Octets) where
-  identifiers-step : (r : Entry) (next : Phase) → Reads (mark-of t) (body-of t) r → 4 + size-of t ≤ length t → phase-after Phase.Identifiers r ≡ just next
-      → (next ≡ Phase.Identifiers → identifiers-in (listed k (after-record t)) ≡ unpacked (take (identifiers-size k (after-record t)) (after-record t)))
+  identifiers-step : (r : Entry) (next : Phase) → Reads (mark-of t) (body-of t) r → phase-after Phase.Identifiers r ≡ just next
+      → (next ≡ Phase.Identifiers → identifiers-in (listed k (after-record t)) ≡ identified k (after-record t))
       → (next ≡ Phase.Answers → identifiers-in (listed k (after-record t)) ≡ [])
-      → identifiers-in (r ∷ listed k (after-record t)) ≡ unpacked (take (identifiers-size (suc k) t) t)
-  unfolding Reads phase-after identifiers-in identifiers-size
-  identifiers-step (author-entry e s d) next q h p more none = absurd (let z : _≡_ {A = ℕ} 0 1 = cc in omega arith)
-  identifiers-step (identifier-entry a o d) next q h p more none =
-      let f : next ≡ Phase.Identifiers = cc in
-      rw (q .marked, front-unpacked t (identifiers-size k (after-record t)) h, q .its-body, more f)
-  identifiers-step (answer-entry n s b) next q h p more none =
-      let f : next ≡ Phase.Answers = cc in
-      rw (q .no-identifier) (none f ∙ sym (unpacked-none (take 0 t) refl))
+      → identifiers-in (r ∷ listed k (after-record t)) ≡ identified (suc k) t
+  unfolding Reads phase-after identifiers-in identified identifier-at
+  identifiers-step (author-entry e s d) next q p more none = absurd (let z : _≡_ {A = ℕ} 0 1 = cc in omega arith)
+  identifiers-step (identifier-entry a o d) next q p more none = let f : next ≡ Phase.Identifiers = cc in rw (q .marked, q .its-body, more f)
+  identifiers-step (answer-entry n s b) next q p more none = let f : next ≡ Phase.Answers = cc in rw (q .no-identifier) (none f)
 
   -- and the message of which it is the first
   message-step : (r : Entry) (next : Phase) → Reads (mark-of t) (body-of t) r → 4 + size-of t ≤ length t → phase-after Phase.Author r ≡ just next
-      → (next ≡ Phase.Identifiers → identifiers-in (listed k (after-record t)) ≡ unpacked (take (identifiers-size k (after-record t)) (after-record t)))
-      → message-in (r ∷ listed k (after-record t)) ≡ record { author = drop 2 (body-of t); existence = getD t 4 0; support = getD t 5 0; identifiers = unpacked (identifiers-part (suc k) t) }
-  unfolding Reads phase-after message-in identifiers-part
+      → (next ≡ Phase.Identifiers → identifiers-in (listed k (after-record t)) ≡ identified k (after-record t))
+      → message-in (r ∷ listed k (after-record t)) ≡ message-on (suc k) t
+  unfolding Reads phase-after message-in message-on identifiers-on
   message-step (identifier-entry a o d) next q h p more = absurd (let z : _≡_ {A = ℕ} 0 1 = cc in omega arith)
   message-step (answer-entry n s b) next q h p more = absurd (let z : _≡_ {A = ℕ} 0 1 = cc in omega arith)
   message-step (author-entry e s d) next q h p more =
@@ -241,13 +220,13 @@ module _ (k : ℕ) (t : Octets) where
 
 -- those of all that are listed
 identifiers-law : (k n : ℕ) (over : Bool) (seen : List Octets) (place : ℕ) (t : Octets)
-    → entries-from n over Phase.Identifiers seen place t ≡ ok (listed k t) → length (listed k t) ≡ k → identifiers-in (listed k t) ≡ unpacked (take (identifiers-size k t) t)
-unfolding listed identifiers-in identifiers-size
-identifiers-law zero n over seen place t e h = sym (unpacked-none (take 0 t) refl)
+    → entries-from n over Phase.Identifiers seen place t ≡ ok (listed k t) → length (listed k t) ≡ k → identifiers-in (listed k t) ≡ identified k t
+unfolding listed identifiers-in identified
+identifiers-law zero n over seen place t e h = refl
 identifiers-law (suc k) n over seen place t e h =
     let (m, (s, (f, g))) = next-listed k n over Phase.Identifiers seen place t e h in
     ap identifiers-in (s .all ∙ ap (λ (rs : List Entry). s .entry ∷ rs) f)
-    ∙ identifiers-step k t (s .entry) (s .next) (record-reads t (s .entry) (s .enters .reads)) (s .enters .fits) (s .enters .follows)
+    ∙ identifiers-step k t (s .entry) (s .next) (record-reads t (s .entry) (s .enters .reads)) (s .enters .follows)
     (λ p. identifiers-law k m over (seen ++ answered-name (s .entry)) (place + 4 + size-of t) (after-record t) (rw (p, f) at (s .goes-on)) g)
     (λ p. no-identifiers m over (seen ++ answered-name (s .entry)) (place + 4 + size-of t) (after-record t) (listed k (after-record t)) (rw (p, f) at (s .goes-on)))
 
@@ -265,8 +244,7 @@ not-none (x ∷ xs) w =
     let z : _≡_ {A = ℕ} 0 1 = cc (s .all) in
     omega arith
 
-pub message-law : (k : ℕ) (sheet : Octets) → Whole k sheet
-    → message-in (listed k sheet) ≡ record { author = drop 2 (body-of sheet); existence = getD sheet 4 0; support = getD sheet 5 0; identifiers = unpacked (identifiers-part k sheet) }
+pub message-law : (k : ℕ) (sheet : Octets) → Whole k sheet → message-in (listed k sheet) ≡ message-on k sheet
 message-law zero sheet w = absurd (not-none sheet w)
 message-law (suc k) sheet w =
     let over = ltb 65536 (length sheet) in

@@ -2,9 +2,7 @@
 use mathlib.Core.Path.{_≡_, refl, ap, sym, _∙_}
 use mathlib.Core.Bool.{false}
 use Prim.Native.Nat.{ℕ}
-use lib.ListN.{drop, getD}
 use Rattle.octets.specs.Octets.{Octets}
-use Rattle.octets.specs.Framing.{body-of}
 use Rattle.octets.specs.Refusing.{OrRefused, ok, not-ok, _>>=_}
 use Rattle.octets.specs.declared.Refusal.{Refusal}
 use Rattle.octets.proofs.TextLaws.{true→T}
@@ -13,11 +11,12 @@ use Rattle.book.specs.Start.{started}
 use Rattle.evaluation.specs.declared.Evaluation.{Evaluation}
 use Rattle.evaluation.specs.declared.Acceptance.{Acceptance}
 use Rattle.evaluation.specs.declared.Changed.{Changed}
-use Rattle.evaluation.specs.code.View.{Changes, started-view, given-message}
 use Rattle.records.specs.Sheet.{entries, message-in}
-use Rattle.records_fields.specs.code.Layout.{listed, identifiers-part, Whole}
+use Rattle.records_fields.specs.code.Layout.{listed, message-on, Whole}
 use Rattle.records_find.proofs.SheetLaws.{message-law}
 use Rattle.sheet.specs.Printed.{evaluated-over, evaluated, text-of, printed}
+use Rattle.sheet_open.specs.code.OpeningSheet.{OpensWith}
+use Rattle.sheet_open.proofs.OpenLaws.{added}
 use Rattle.sheet_turn.specs.code.Conversing.{answers-on}
 use Rattle.sheet_run.specs.code.Beginning.{Begins}
 use Rattle.sheet_turn.proofs.ConversingLaws.{begins}
@@ -39,31 +38,27 @@ module _ (k : ℕ) (sheet : Octets) (ω : Whole k sheet) where
   unfolding printed evaluated _>>=_ started-then answers-on
   printed-whole = rw (ω .reads)
 
-  -- the start that the code makes
-  module _ {author : Octets} {existence support : ℕ} {packed : Octets} (e : author ≡ drop 2 (body-of sheet)) (f : existence ≡ getD sheet 4 0) (h : support ≡ getD sheet 5 0) (i : packed ≡ identifiers-part k sheet)
-      (before : Evaluation) (r : Changed) (c : Changes before (started-view (started (given-message author existence support packed))) r) where
-    is-message : given-message author existence support packed ≡ message-in (listed k sheet)
-    unfolding given-message
-    is-message = rw (e, f, h, i) (sym (message-law k sheet ω))
-
-    pub whole : Begins sheet (record { records = k; evaluation = r .evaluation; acceptance = r .acceptance })
-    unfolding Changes started-view started-then _>>=_
-    whole = go (started (message-in (listed k sheet))) refl (rw is-message at c)
-      where
-        go : (o : OrRefused Message) → started (message-in (listed k sheet)) ≡ o → Changes before (started-view o) r → Begins sheet (record { records = k; evaluation = r .evaluation; acceptance = r .acceptance })
-        go (ok m) s (a, v) = record {
-          refused = λ g q. let z : Acceptance.Refused g ≡ Acceptance.Accepted = sym q ∙ a in absurd (true→T {b = false} (cc z));
-          accepted = λ q. record {
-            message = m;
-            all-listed = ω .all-listed;
-            conversing = λ lines size. begins (message-in (listed k sheet)) m s (answers-on k sheet) (r .evaluation) lines v size;
-            prints = printed-whole ∙ rw s;
-          };
-        }
-        go (not-ok x) s a = record {
-          refused = λ g q.
-              let z : Acceptance.Refused g ≡ Acceptance.Refused x = sym q ∙ ap (λ y. y .acceptance) a in
-              let w : g ≡ x = cc z in
-              printed-whole ∙ rw (s, w);
-          accepted = λ q. let z : Acceptance.Accepted ≡ Acceptance.Refused x = sym q ∙ ap (λ y. y .acceptance) a in absurd (true→T {b = false} (cc z));
-        }
+  -- the opening and the addings that the code makes
+  pub whole : (r : Changed) → OpensWith (started (message-on k sheet)) r → Begins sheet (record { records = k; evaluation = r .evaluation; acceptance = r .acceptance })
+  unfolding OpensWith started-then _>>=_
+  whole r c = go (started (message-in (listed k sheet))) refl (rw (message-law k sheet ω) c)
+    where
+      go : (o : OrRefused Message) → started (message-in (listed k sheet)) ≡ o → OpensWith o r → Begins sheet (record { records = k; evaluation = r .evaluation; acceptance = r .acceptance })
+      go (ok m) s (a, v) = record {
+        refused = λ g q. let z : Acceptance.Refused g ≡ Acceptance.Accepted = sym q ∙ a in absurd (true→T {b = false} (cc z));
+        accepted = λ q.
+            let first = added (message-in (listed k sheet)) m s in
+            record {
+              message = m;
+              all-listed = ω .all-listed;
+              conversing = λ lines size. begins (first .first) m (first .opens) _ (first .book) (answers-on k sheet) (r .evaluation) lines v size;
+              prints = printed-whole ∙ rw s;
+            };
+      }
+      go (not-ok x) s a = record {
+        refused = λ g q.
+            let z : Acceptance.Refused g ≡ Acceptance.Refused x = sym q ∙ a in
+            let w : g ≡ x = cc z in
+            printed-whole ∙ rw (s, w);
+        accepted = λ q. let z : Acceptance.Accepted ≡ Acceptance.Refused x = sym q ∙ a in absurd (true→T {b = false} (cc z));
+      }

@@ -12,7 +12,7 @@ use octets::Refusal;
 use octets::Written;
 use records_fields::Scanned;
 
-// The calls of a started evaluation, one turn after another, and where the text ends.
+// The calls of an opened evaluation, one turn after another, and where the text ends.
 fn converse(e: Evaluation, records: usize, sheet: &[u8], lines: &mut [u8]) -> usize
     ensures { λ r. ⌜ Converses records (now (sheet .entry)) e (now (lines .entry)) r (now (lines .exit)) ⌝ }
 {
@@ -31,28 +31,22 @@ fn converse(e: Evaluation, records: usize, sheet: &[u8], lines: &mut [u8]) -> us
     at
 }
 
-// A sheet's start: how many records it has, the evaluation of its message, and whether that is accepted.
+// A sheet's beginning: how many records it has, the evaluation of its message, and whether that is accepted.
 struct Begun {
     records: usize,
     evaluation: Evaluation,
     acceptance: Acceptance,
 }
 
-// A sheet is checked, and its message started.
+// A sheet is checked, its message opened and its identifiers added.
 fn begin(sheet: &[u8]) -> Begun
     ensures { λ r. ⌜ Begins (now (sheet .entry)) r ⌝ }
 {
     match records_check::check_sheet(sheet) {
         Scanned::Whole(records) => {
-            let started = evaluation_start::start(
-                evaluation_state::empty(),
-                text_parts::skip(records_fields::body(sheet), 2),
-                records_fields::octet_at(sheet, 4, 0),
-                records_fields::octet_at(sheet, 5, 0),
-                records_find::identifiers(records, sheet),
-            );
-            let evaluation = started.evaluation;
-            let acceptance = started.acceptance;
+            let opened = sheet_open::open(records, sheet);
+            let evaluation = opened.evaluation;
+            let acceptance = opened.acceptance;
             Begun {
                 records,
                 evaluation,

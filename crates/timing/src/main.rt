@@ -16,14 +16,25 @@ struct State {
     count: usize,
 }
 
-// A start.
-fn make_start(s: State, body: &[u8]) -> State {
-    if body.len() < 3 {
+// An opening.
+fn make_opening(s: State, body: &[u8]) -> State {
+    if body.len() < 2 {
         return s;
     }
-    let author = text_parts::part(body, 3, 3 + bodies::octet_at(body, 2));
-    let packed = records_fields::bytes(text_parts::skip(body, 1));
-    let changed = evaluation_start::start(s.evaluation, author, body[0], body[1], packed);
+    let changed = evaluation_open::open(s.evaluation, text_parts::skip(body, 2), body[0], body[1]);
+    let after = changed.evaluation;
+    State {
+        evaluation: after,
+        count: s.count,
+    }
+}
+
+// An adding.
+fn make_adding(s: State, body: &[u8]) -> State {
+    if body.len() < 2 {
+        return s;
+    }
+    let changed = evaluation_add::add(s.evaluation, body[0], body[1], text_parts::skip(body, 2));
     let after = changed.evaluation;
     State {
         evaluation: after,
@@ -69,7 +80,8 @@ fn make_call(s: State, call: &[u8], scratch: &mut [u8]) -> State {
     }
     let body = text_parts::skip(call, 3);
     match call[0] {
-        b'S' => make_start(s, body),
+        b'O' => make_opening(s, body),
+        b'I' => make_adding(s, body),
         b'A' => make_answer(s, body, scratch),
         _ => make_step(s),
     }

@@ -2,10 +2,10 @@
 
 use crate::domain::without_dot;
 use crate::evaluate::{evaluate, Evaluation, Progress};
+use crate::message::Message;
 use crate::refusal::Refusal;
 use crate::report;
 use crate::rows::Finding;
-use crate::start::{self, GivenMessage, Message};
 use crate::txt::{self, Answer, Status};
 use crate::verdict::Verdict;
 use crate::walk::AskedName;
@@ -22,12 +22,14 @@ struct Accepted {
 }
 
 /// "It holds message, accepted answers and the name now asked; the last two
-/// start empty." Without a message nothing was started.
+/// start empty." Without a message nothing was opened.
 #[derive(Clone, Debug, Default, PartialEq, Eq)]
 pub struct Book {
     message: Option<Message>,
     accepted: Vec<Accepted>,
     asked: Option<Vec<u8>>,
+    /// "the first name or the verdict has been handed out"
+    closed: bool,
 }
 
 /// "The next step is one of three": the third is a refusal.
@@ -38,19 +40,28 @@ pub enum Step {
 }
 
 impl Book {
-    /// Starts a message over; a refused start leaves the book as it stood.
-    pub fn start(&mut self, given: &GivenMessage) -> Result<(), Refusal> {
+    /// Opens a message afresh; a refused opening leaves the book as it stood.
+    pub fn open(&mut self, author: &[u8], existence: u8, support: u8) -> Result<(), Refusal> {
         *self = Book {
-            message: Some(start::start(given)?),
+            message: Some(Message::open(author, existence, support)?),
             ..Book::default()
         };
         Ok(())
+    }
+
+    /// Adds an identifier: "17 too late, or nothing opened, before those".
+    pub fn add(&mut self, kind: u8, outcome: u8, domain: &[u8]) -> Result<(), Refusal> {
+        let message = self.message.as_mut().filter(|_| !self.closed);
+        message
+            .ok_or(Refusal::new(17, 0))?
+            .add(kind, outcome, domain)
     }
 
     /// "separate walks run over its answers to the first name without one, which
     /// is given and now asked; ... if none lacks one, the verdict"
     pub fn next_step(&mut self) -> Result<Step, Refusal> {
         let evaluation = self.evaluation().ok_or(Refusal::new(7, 0))?;
+        self.closed = true;
         Ok(match evaluation.progress {
             Progress::Ask(asked) => {
                 self.asked = Some(asked.name.clone());

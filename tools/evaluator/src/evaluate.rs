@@ -6,8 +6,8 @@ mod discovery;
 mod disposition;
 
 use crate::grounds::{Discovery, Grounds, Reason, ResultReason};
+use crate::message::Message;
 use crate::policy::Policy;
-use crate::start::Message;
 use crate::txt::Answer;
 use crate::verdict::{AppliedPolicy, Verdict};
 use crate::walk::{AskedName, Asker, Found, NoAnswerYet};

@@ -2,8 +2,8 @@
 //! that steps a to e had. The evaluator fills this in as it goes.
 
 use crate::domain::Domain;
+use crate::message::Message;
 use crate::policy::Policy;
-use crate::start::Message;
 use crate::verdict::{Alignment, DmarcResult};
 use crate::walk::{Found, Walk};
 

@@ -1,8 +1,8 @@
 //! The report file name and the Identity-Alignment field.
 
 use crate::domain::Domain;
+use crate::message::{Kind, Message};
 use crate::refusal::Refusal;
-use crate::start::{Kind, Message};
 use crate::verdict::{Alignment, DmarcResult, Verdict};
 
 /// "id empty, not alphanumeric or over 64 octets"

@@ -2,9 +2,9 @@
 //! policy domain.
 
 use crate::domain::{without_dot, Domain};
+use crate::message::{Kind, Message};
 use crate::refusal::Refusal;
 use crate::report::judged;
-use crate::start::{Kind, Message};
 use crate::verdict::{Alignment, Disposition, DmarcResult, Verdict};
 
 /// "Up to 256 rows"; "rows past the 256th are no part of the list".

@@ -5,14 +5,43 @@ use std::collections::HashMap;
 use crate::domain::{fault, without_dot, Domain};
 use crate::evaluate::{evaluate, Progress};
 use crate::grounds::Grounds;
+use crate::message::Message;
 use crate::refusal::Refusal;
-use crate::start::{start, GivenIdentifier, GivenMessage, Message};
 use crate::txt::{self, Answer, Status};
 use crate::verdict::Verdict;
 use crate::walk::AskedName;
 
 /// "or over 65,536 octets"
 pub const MOST_OCTETS: usize = 65_536;
+
+/// An `ID` record.
+#[derive(Clone, Copy, Debug, PartialEq, Eq)]
+pub struct GivenIdentifier<'a> {
+    pub kind: u8,
+    pub outcome: u8,
+    pub domain: &'a [u8],
+}
+
+/// The `AU` record, and the `ID` records.
+#[derive(Clone, Debug, PartialEq, Eq)]
+pub struct GivenMessage<'a> {
+    pub author: &'a [u8],
+    pub existence: u8,
+    pub support: u8,
+    pub identifiers: Vec<GivenIdentifier<'a>>,
+}
+
+impl GivenMessage<'_> {
+    /// The message opened, and its identifiers added in turn: the first refusal
+    /// among 1 to 4 is the sheet's.
+    pub fn accepted(&self) -> Result<Message, Refusal> {
+        let mut message = Message::open(self.author, self.existence, self.support)?;
+        for given in &self.identifiers {
+            message.add(given.kind, given.outcome, given.domain)?;
+        }
+        Ok(message)
+    }
+}
 
 /// An `AN` record.
 #[derive(Clone, Copy, Debug, PartialEq, Eq)]
@@ -198,7 +227,7 @@ pub fn verdict(octets: &[u8]) -> Result<(Vec<AskedName>, Verdict), Refusal> {
 /// that name is asked."
 pub fn reasoned(octets: &[u8]) -> Result<Reasoned, Refusal> {
     let sheet = read(octets)?;
-    let message = start(&sheet.message)?;
+    let message = sheet.message.accepted()?;
     let evaluation = evaluate(&message, |name| sheet.answer(name));
     match (evaluation.progress, evaluation.grounds) {
         (Progress::Verdict(verdict), Some(grounds)) => Ok(Reasoned {

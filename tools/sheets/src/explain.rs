@@ -5,10 +5,10 @@ use crate::description::quoted;
 use evaluator::domain::Domain;
 use evaluator::grounds::{AppliedBy, Choice, Discovery, Grounds};
 use evaluator::grounds::{PolicySource, Reason, ResultReason};
+use evaluator::message::{Existence, Identifier, Kind, Message, Outcome};
 use evaluator::policy::{repeated_name, Policy};
 use evaluator::refusal::Refusal;
 use evaluator::sheet::{self, Reasoned};
-use evaluator::start::{Existence, Identifier, Kind, Message, Outcome};
 use evaluator::verdict::{AppliedPolicy, Disposition, DmarcResult, Verdict};
 use evaluator::walk::{AskedName, Found, Walk};
 

@@ -29,7 +29,7 @@ const USAGE: &str = "usage:
 KIND is ordinary or hostile.";
 
 /// The kinds of calls.
-const CALLS: &str = "SNARFD";
+const CALLS: &str = "OINARFD";
 
 fn main() -> ExitCode {
     command::run(|words| match words {

@@ -1,6 +1,6 @@
 -- When what an evaluation keeps shows 01's book.
 use mathlib.Core.Path.{_≡_}
-use mathlib.Core.List.{[]}
+use mathlib.Core.Bool.{true, false}
 use mathlib.Core.Option.{Option, none as nothing, some as just}
 use Rattle.lookup.specs.Lookup.{Name, needs}
 use Rattle.verdict_cursor.specs.code.Cursor.{Cursor, stands}
@@ -13,12 +13,12 @@ use Rattle.evaluation.specs.StoredAfter.{replies}
 
 -- what is kept of a book
 unfoldable pub shows : Book → Option Cursor → Keeps
-shows b o = record { message = just (b .message); replies = replies (b .answers); asked = b .asked; at = o }
+shows b o = record { message = just (b .message); replies = replies (b .run .taken); asked = b .run .asked; at = o }
 
--- where what is kept stands beside a book: nowhere until a name was given to ask; then where the book stands, at the name asked if one is
+-- where what is kept stands beside a book: nowhere until a name was handed out; then where the book stands, at the name asked if one is
 unfoldable pub Beside : Book → Option Cursor → Type 0
-Beside b nothing = (b .answers ≡ []) × (b .asked ≡ nothing)
-Beside b (just c) = KeptCursor (replies (b .answers)) (b .message) c × ((n : Name) → b .asked ≡ just n → stands (b .message) c ≡ needs n)
+Beside b nothing = b .handed-out ≡ false
+Beside b (just c) = (b .handed-out ≡ true) × KeptCursor (replies (b .run .taken)) (b .message) c × ((n : Name) → b .run .asked ≡ just n → stands (b .message) c ≡ needs n)
 
 pub record Shows (e : Evaluation) (b : Book) : Type 0 where
   pub stands-at : Option Cursor

@@ -6,7 +6,7 @@ use mathlib.Core.Option.{Option, none as nothing, some as just}
 use Prim.Native.Nat.{ℕ, _*_}
 use lib.Dec.{leb}
 use lib.ListN.{drop, replicate}
-use Rattle.octets.specs.Octets.{Octets, if_then_else_}
+use Rattle.octets.specs.Octets.{if_then_else_}
 use Rattle.octets.specs.Refusing.{OrRefused, ok, not-ok}
 use Rattle.lookup.specs.Lookup.{Name, Answers}
 use Rattle.domain.specs.declared.Octet.{Octet}
@@ -28,8 +28,8 @@ use Rattle.evaluation.specs.declared.Stepped.{Stepped}
 use Rattle.evaluation.specs.declared.Resulting.{Resulting}
 use Rattle.evaluation.specs.declared.Acceptance.{Acceptance}
 use Rattle.evaluation.specs.declared.Changed.{Changed}
-use Rattle.book.specs.Start.{GivenMessage, unpacked}
-use Rattle.book.specs.Book.{Call, next, result, Back, ask-name, verdict, accepted, wrote, refused, Given, given}
+use Rattle.asking.specs.Asking.{Back, ask-name, verdict, accepted, wrote, refused, Given, given}
+use Rattle.book.specs.Book.{Call, add, next, answer, result, field}
 use Rattle.evaluation.specs.code.Machine.{Keeps, keeps-nothing, keeps-opened, judged, machine-call}
 
 -- ------------------------------------------------------------------ what an evaluation keeps
@@ -50,7 +50,7 @@ asked-now e true = needed (stands (message-now e) (cursor-now e))
 unfoldable pub handed-view : Evaluation → Keeps
 handed-view e = record { message = just (message-now e); replies = replies-now e; asked = asked-now e (e .asked); at = just (cursor-now e) }
 
--- before the first step no reply is read, and before a start nothing
+-- before the first step no reply is read, and before an opening nothing
 unfoldable pub view-by : Evaluation → (started handed : Bool) → Keeps
 view-by e false handed = keeps-nothing
 view-by e true false = keeps-opened (message-now e)
@@ -67,7 +67,7 @@ marked e walk place = asked-name (drop (place .0) (slot (e .domains) (e .numbers
 unfoldable pub begin-of-slot : (walk : ℕ) → ℕ
 begin-of-slot walk = if leb walk 16 then 253 * walk else 0
 
--- an evaluation in which nothing was started: every octet and every number of it is 0
+-- an evaluation in which nothing was opened: every octet and every number of it is 0
 unfoldable pub blank : Evaluation
 blank = record {
   started = false;
@@ -89,35 +89,42 @@ blank = record {
 
 -- ------------------------------------------------------------------ what a call promises
 
--- whether what a call gives back says that the evaluation was changed: a name is now asked, or an answer was kept
-unfoldable pub changing : Back → Bool
+-- whether what a call gives back says that the evaluation was changed: a name is now asked, or an identifier or an answer was kept
+unfoldable pub changing : Back Verdict → Bool
 changing (ask-name n) = true
 changing (verdict w count) = false
 changing accepted = true
 changing (wrote octets) = false
 changing (refused f) = false
 
+unfoldable pub is-adding : Call → Bool
+is-adding (add g) = true
+is-adding next = false
+is-adding (answer name status bytes scratch) = false
+is-adding result = false
+is-adding (field output) = false
+
 -- of the evaluation that it gets, the call, the evaluation that it leaves, and what it gives
-pub record Does (before : Evaluation) (c : Call) (after : Evaluation) (g : Given) : Type 0 where
+pub record Does (before : Evaluation) (c : Call) (after : Evaluation) (g : Given Verdict) : Type 0 where
   pub leaves : view after ≡ machine-call (view before) c .0
   pub gives : g ≡ machine-call (view before) c .1
   -- "A refusal leaves the evaluation .. unchanged"; so does a verdict, and a field
   pub stands : changing (g .back) ≡ false → after ≡ before
-  -- the stored domains stay, so a walk and a place go on to mark the same name
-  pub same-domains : (after .domains ≡ before .domains) × (after .numbers ≡ before .numbers)
+  -- but for an adding the stored domains stay, so a walk and a place go on to mark the same name
+  pub same-domains : is-adding c ≡ false → (after .domains ≡ before .domains) × (after .numbers ≡ before .numbers)
 
 -- ------------------------------------------------------------------ the code's answers, read
 
-unfoldable pub step-back : Evaluation → Step → Back
+unfoldable pub step-back : Evaluation → Step → Back Verdict
 step-back e (Step.Ask walk place) = ask-name (marked e walk place)
 step-back e (Step.Verdict v) = verdict (verdict-in (message-now e) (v .judgement)) (v .count)
 step-back e (Step.Refused f) = refused f
 
-unfoldable pub resulting-back : Evaluation → Resulting → Back
+unfoldable pub resulting-back : Evaluation → Resulting → Back Verdict
 resulting-back e (Resulting.Verdict v) = verdict (verdict-in (message-now e) (v .judgement)) (v .count)
 resulting-back e (Resulting.Refused f) = refused f
 
-unfoldable pub acceptance-back : Acceptance → Back
+unfoldable pub acceptance-back : Acceptance → Back Verdict
 acceptance-back Acceptance.Accepted = accepted
 acceptance-back (Acceptance.Refused f) = refused f
 
@@ -147,16 +154,13 @@ pub record DoesResult (before : Evaluation) (r : Resulting) : Type 0 where
   pub says : resulting-in before r ≡ judged (view before)
   pub fixed : ResultFixed (message-now before) r
 
--- ------------------------------------------------------------------ start
+-- ------------------------------------------------------------------ opening
 
--- the promise of a start: accepted, the evaluation keeps the message and nothing more; "refused, the evaluation stands as it did"
+-- the promise of an opening: accepted, the evaluation keeps the message and nothing more; "refused, the evaluation stands as it did"
 unfoldable pub Changes : Evaluation → OrRefused Keeps → Changed → Type 0
 Changes e (ok k) r = (r .acceptance ≡ Acceptance.Accepted) × (view (r .evaluation) ≡ k)
 Changes e (not-ok f) r = r ≡ record { evaluation = e; acceptance = Acceptance.Refused f }
 
-unfoldable pub started-view : OrRefused Message → OrRefused Keeps
-started-view (ok m) = ok (keeps-opened m)
-started-view (not-ok f) = not-ok f
-
-unfoldable pub given-message : (author : Octets) → (existence support : ℕ) → (packed : Octets) → GivenMessage
-given-message author existence support packed = record { author = author; existence = existence; support = support; identifiers = unpacked packed }
+unfoldable pub opened-view : OrRefused Message → OrRefused Keeps
+opened-view (ok m) = ok (keeps-opened m)
+opened-view (not-ok f) = not-ok f

@@ -1,6 +1,5 @@
 -- `evaluation_first::point` meets its contract.
 use borrow.Author.Needs.{needs}
-use borrow.Author.Tests.{not-true, not-false}
 use Rattle.walk_known.specs.code.Kept.{kept-answers}
 use Rattle.evaluation_first.proofs.PointLaws.{points-on, points-first}
 use Rattle.evaluation_first.proofs.point.Statement.{statement}

@@ -7,7 +7,8 @@ use mathlib.Core.List.{List}
 use mathlib.Core.Path.{_≡_, refl, ap, _∙_}
 use Rattle.txt_codes.proofs.CodeLaws.{reply-back, reply-small}
 use Rattle.walk_known.specs.code.Kept.{kept-answers}
-use Rattle.evaluation.proofs.CallLaws.{kept-more, slot-small, begin-small, mark-stored}
+use Rattle.alignment_stored.proofs.StoredLaws.{slot-size}
+use Rattle.evaluation.proofs.CallLaws.{kept-more, begin-small, mark-stored}
 use Rattle.evaluation_keep.proofs.keep_reply.Statement.{statement}
 use Rattle.evaluation_keep.proofs.keep_reply.Tie as tie
 
@@ -15,7 +16,7 @@ use Rattle.evaluation_keep.proofs.keep_reply.Tie as tie
 end-small : (v : tie.After-slot-begin) → v .slot-begin .result + length (v .before .slot .result .now) ≤ 4301
 end-small v =
     let a = v .before .before .before .before .before .args in
-    let size : length (v .before .slot .result .now) ≤ 253 = rw (v .before .slot .ensures) (slot-small (a .domains .now) (a .numbers .now) (a .walk)) in
+    let size : length (v .before .slot .result .now) ≤ 253 = rw (v .before .slot .ensures) (slot-size (a .domains .now) (a .numbers .now) (a .walk)) in
     omega (arith, size, v .slot-begin .ensures, begin-small (a .walk))
 
 put-length : (l : List ℕ) (at x y z : ℕ) → length (set (set (set l at x) (at + 1) y) (at + 2) z) ≡ length l

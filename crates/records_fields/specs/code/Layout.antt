@@ -6,10 +6,11 @@ use mathlib.Core.Option.{Option, none as nothing, some as just}
 use Prim.Native.Nat.{ℕ, zero, suc, _+_, _-_}
 use lib.ListN.{length, take, drop, getD}
 use Rattle.octets.specs.Octets.{Octets, octets, same, same-text, if_then_else_}
-use Rattle.octets.specs.Framing.{mark-of, size-of, body-of, after-record}
+use Rattle.octets.specs.Framing.{mark-of, body-of, after-record}
 use Rattle.octets.specs.Refusing.{ok, not-ok, refusal}
 use Rattle.domain.specs.Domain.{without-dot}
 use Rattle.txt.specs.declared.Status.{Status}
+use Rattle.book.specs.Start.{GivenIdentifier, GivenMessage}
 use Rattle.records.specs.Sheet.{Entry, status-of, entry-of, entries}
 use Rattle.records_fields.specs.declared.Scanned.{Scanned}
 
@@ -50,14 +51,22 @@ bytes-in body = drop (2 + getD body 1 0) body
 
 -- ------------------------------------------------------------------ the message
 
--- how many octets the identifiers among the first k records take
-unfoldable pub identifiers-size : ℕ → Octets → ℕ
-identifiers-size zero t = 0
-identifiers-size (suc k) t = if same (mark-of t) (octets "ID") then 4 + size-of t + identifiers-size k (after-record t) else 0
+-- the identifier of the record where it lies
+unfoldable pub identifier-at : Octets → GivenIdentifier
+identifier-at t = record { kind = getD (body-of t) 0 0; outcome = getD (body-of t) 1 0; domain = drop 2 (body-of t) }
 
--- the identifiers of a sheet of k records, which follow the author's
-unfoldable pub identifiers-part : ℕ → Octets → Octets
-identifiers-part k sheet = take (identifiers-size (k - 1) (after-record sheet)) (after-record sheet)
+-- the identifiers among the first k records, up to the first record of another mark
+unfoldable pub identified : ℕ → Octets → List GivenIdentifier
+identified zero t = []
+identified (suc k) t = if same (mark-of t) (octets "ID") then identifier-at t ∷ identified k (after-record t) else []
+
+-- those of a sheet of k records, which follow the author's
+unfoldable pub identifiers-on : ℕ → Octets → List GivenIdentifier
+identifiers-on k sheet = identified (k - 1) (after-record sheet)
+
+-- and its message
+unfoldable pub message-on : ℕ → Octets → GivenMessage
+message-on k sheet = record { author = drop 2 (body-of sheet); existence = getD sheet 4 0; support = getD sheet 5 0; identifiers = identifiers-on k sheet }
 
 -- ------------------------------------------------------------------ what a check promises
 

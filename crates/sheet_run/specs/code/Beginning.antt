@@ -1,4 +1,4 @@
--- A sheet's start: what a check of its records and the start of its message leave.
+-- A sheet's beginning: what a check of its records, the opening of its message and the adding of its identifiers leave.
 use mathlib.Core.Path.{_≡_}
 use Prim.Native.Nat.{ℕ}
 use lib.ListN.{length}
@@ -20,7 +20,7 @@ pub record Starts (sheet : Octets) (records : ℕ) (e : Evaluation) : Type 0 whe
   pub conversing : (lines : Octets) → length lines ≡ 36864 → Conversing message (answers-on records sheet) 0 e 0 lines
   pub prints : printed sheet ≡ text-of (evaluated-over message (answers-on records sheet))
 
--- a refusal is the sheet's; a start that is accepted opens the conversation
+-- a refusal is the sheet's; where all is accepted, the conversation begins
 pub record Begins (sheet : Octets) (r : Begun) : Type 0 where
   pub refused : (f : Refusal) → r .acceptance ≡ Acceptance.Refused f → printed sheet ≡ text-of (not-ok f)
   pub accepted : r .acceptance ≡ Acceptance.Accepted → Starts sheet (r .records) (r .evaluation)

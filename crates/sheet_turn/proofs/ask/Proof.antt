@@ -7,8 +7,7 @@ use Rattle.evaluation.specs.code.View.{acceptance-back}
 use Rattle.sheet_turn.specs.code.Conversing.{answers-on}
 use Rattle.records_find.proofs.SheetLaws.{answer-law}
 use Rattle.txt.specs.Answers.{answer-of}
-use mathlib.Core.Path.{refl}
-use mathlib.Core.Path.{_≡_}
+use mathlib.Core.Path.{_≡_, refl}
 use Rattle.sheet_turn.proofs.ask.Statement.{statement}
 use Rattle.sheet_turn.proofs.ask.Tie as tie
 

@@ -1,14 +1,13 @@
 -- `sheet_turn::take_turn` meets its contract.
 use borrow.Author.Needs.{needs}
 use Rattle.sheet_turn.proofs.ConversingLaws.{asks, ends, not-refused, ending}
-use mathlib.Core.Path.{refl, _∙_}
+use mathlib.Core.Path.{_≡_, refl, _∙_}
 use Rattle.sheet_turn.proofs.NameLaws.{front-part}
 use Rattle.evaluation.specs.code.View.{message-now, marked, Does, step-back}
 use Rattle.verdict_judgement.specs.code.Judging.{verdict-in}
-use Rattle.book.specs.Book.{next, given, ask-name}
+use Rattle.asking.specs.Asking.{given, ask-name}
+use Rattle.book.specs.Book.{next}
 use mathlib.Core.List.{[]}
-use mathlib.Core.Path.{_∙_}
-use mathlib.Core.Path.{_≡_}
 use native.Mathlib.Omega.{arith}
 use Rattle.sheet_turn.proofs.take_turn.Statement.{statement}
 use Rattle.sheet_turn.proofs.take_turn.Tie as tie

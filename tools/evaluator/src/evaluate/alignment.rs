@@ -2,8 +2,8 @@
 
 use crate::domain::Domain;
 use crate::grounds::{Grounds, Reason, ResultReason};
+use crate::message::{Identifier, Kind, Message, Outcome};
 use crate::policy::{Mode, Settings};
-use crate::start::{Identifier, Kind, Message, Outcome};
 use crate::verdict::Alignment;
 use crate::walk::{Asker, NoAnswerYet};
 

@@ -2,8 +2,8 @@
 
 use crate::domain::Domain;
 use crate::grounds::{AppliedBy, Discovery, Grounds};
+use crate::message::Message;
 use crate::policy::Psd;
-use crate::start::Message;
 use crate::txt::Reply;
 use crate::walk::{Asker, Found, NoAnswerYet, Walk};
 

@@ -1,8 +1,8 @@
 //! Steps b, e and f: a record's policies, the one that holds, and what is done.
 
 use crate::grounds::{Choice, PolicySource, PolicyTag};
+use crate::message::Existence;
 use crate::policy::{Policy, Settings, Usable};
-use crate::start::Existence;
 use crate::verdict::{AppliedPolicy, Disposition, DmarcResult};
 
 /// The three policies of a record.

@@ -1,6 +1,6 @@
 //! Readings 22 to 34: answers, their bytes, limits and scratch.
 
-use crate::case::{case, refusal, Case};
+use crate::case::{case, refusal};
 use crate::octets::tx;
 use evaluator::book::{Book, Step};
 use evaluator::refusal::Refusal;
@@ -11,9 +11,7 @@ const NAME: &[u8] = b"_dmarc.example.com";
 
 /// A book that now asks `_dmarc.example.com`.
 fn asking() -> Book {
-    let mut book = Book::default();
-    let message: Case = case("example.com");
-    book.start(&message.given()).unwrap();
+    let mut book = case("example.com").book();
     book.next_step().unwrap();
     assert_eq!(book.now_asked(), Some(NAME));
     book
@@ -186,13 +184,12 @@ fn point_31_the_name_is_compared_whole_and_in_either_case() {
 }
 
 #[test]
-fn point_32_an_answer_where_nothing_was_started() {
+fn point_32_an_answer_where_nothing_was_opened() {
     let none = Answer::NONE;
     let given = Book::default().answer(NAME, none, &mut [0; 4096]);
     assert_eq!(given, Err(refusal(5, 0)));
-    // Started, but no name was asked yet.
-    let mut book = Book::default();
-    book.start(&case("example.com").given()).unwrap();
+    // Opened, but no name was asked yet.
+    let mut book = case("example.com").book();
     assert_eq!(book.answer(NAME, none, &mut [0; 4096]), Err(refusal(5, 0)));
 }
 

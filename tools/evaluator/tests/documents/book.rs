@@ -4,15 +4,8 @@ use crate::case::{case, domain_of, refusal, Case};
 use crate::octets::E;
 use evaluator::book::{Book, Step};
 use evaluator::evaluate::{evaluate, Progress};
-use evaluator::start::start;
 use evaluator::txt::Answer;
 use evaluator::verdict::DmarcResult;
-
-fn started(case: &Case) -> Book {
-    let mut book = Book::default();
-    book.start(&case.given()).expect("an accepted message");
-    book
-}
 
 /// The name, walk and place of an ask.
 fn ask(book: &mut Book) -> (String, usize, usize) {
@@ -54,7 +47,7 @@ fn points_78_and_79_walk_and_place_of_a_name() {
         .dkim("mail.example.com")
         .dkim("MAIL.example.com")
         .dkim("a.other.com");
-    let asks = run_out(&mut started(&case), &case);
+    let asks = run_out(&mut case.book(), &case);
     let expected = [
         name("news.example.com", 0, 0),
         name("example.com", 0, 5),
@@ -77,7 +70,7 @@ fn point_80_the_applied_domain_is_a_suffix_of_the_author() {
 #[test]
 fn point_82_next_twice() {
     let case = case("example.com");
-    let mut book = started(&case);
+    let mut book = case.book();
     let first = ask(&mut book);
     let before = book.clone();
     assert_eq!(ask(&mut book), first);
@@ -92,7 +85,7 @@ fn point_82_next_twice() {
 #[test]
 fn point_83_result_right_after_the_last_answer() {
     let case = case("example.com").text("example.com", E);
-    let mut book = started(&case);
+    let mut book = case.book();
     ask(&mut book);
     assert_eq!(book.result(), Err(refusal(7, 0)));
     answer(&mut book, &case);
@@ -101,13 +94,13 @@ fn point_83_result_right_after_the_last_answer() {
 
 #[test]
 fn point_84_result_and_field_before_any_next() {
-    let book = started(&case("example.com").dkim("example.com"));
+    let book = case("example.com").dkim("example.com").book();
     assert_eq!(book.result(), Err(refusal(7, 0)));
     assert_eq!(book.field(&mut [0; 100]), Err(refusal(7, 0)));
 }
 
 #[test]
-fn point_6_where_nothing_was_started() {
+fn point_6_where_nothing_was_opened() {
     let mut book = Book::default();
     assert_eq!(book.next_step(), Err(refusal(7, 0)));
     assert_eq!(book.result(), Err(refusal(7, 0)));
@@ -120,7 +113,7 @@ fn points_85_and_86_after_the_verdict() {
     let case = case("example.com")
         .text("example.com", E)
         .spf("example.com");
-    let mut book = started(&case);
+    let mut book = case.book();
     run_out(&mut book, &case);
     let before = book.clone();
     let verdict = book.result().unwrap();
@@ -138,7 +131,7 @@ fn points_85_and_86_after_the_verdict() {
 #[test]
 fn point_89_refused_calls_change_nothing() {
     let case = case("example.com").dkim("example.com");
-    let mut book = started(&case);
+    let mut book = case.book();
     ask(&mut book);
     let before = book.clone();
     let mut lent = [170; 4096];
@@ -156,14 +149,14 @@ fn point_89_refused_calls_change_nothing() {
 #[test]
 fn point_90_field_order() {
     let field = |case: &Case, octets: usize| {
-        let mut book = started(case);
+        let mut book = case.book();
         run_out(&mut book, case);
         let mut lent = vec![170; octets];
         (book.field(&mut lent), lent)
     };
     // Before the verdict, with no output: 7.
     let own = case("example.com").text("example.com", E);
-    assert_eq!(started(&own).field(&mut []), Err(refusal(7, 0)));
+    assert_eq!(own.book().field(&mut []), Err(refusal(7, 0)));
     // Neither pass nor fail, or no identifier: 9 before 10.
     let temperror = case("example.com").error("example.com").dkim("example.com");
     assert_eq!(field(&temperror, 0).0, Err(refusal(9, 0)));
@@ -206,7 +199,7 @@ fn point_92_a_list_of_calls_gives_the_verdict_of_separate_walks() {
         .text("example.com", "v=DMARC1; p=none")
         .spf("other.org")
         .dkim("mail.example.com");
-    let mut book = started(&case);
+    let mut book = case.book();
     let asks = run_out(&mut book, &case);
     assert_eq!(book.result().unwrap(), case.verdict());
     let names: Vec<String> = case
@@ -226,7 +219,7 @@ fn point_93_the_names_so_far_are_the_first_of_the_list() {
         .text("example.com", "v=DMARC1; p=none")
         .dkim("mail.example.com")
         .dkim("a.b.org");
-    let message = start(&case.given()).unwrap();
+    let message = case.message().unwrap();
     let all = case.asked();
     assert_eq!(all.len(), 7);
     for answered in 0..all.len() {
@@ -252,7 +245,7 @@ fn point_93_the_names_so_far_are_the_first_of_the_list() {
 #[test]
 fn an_answer_kept_in_the_other_case_counts() {
     let case = case("EXAMPLE.com").text("example.com", E);
-    let mut book = started(&case);
+    let mut book = case.book();
     ask(&mut book);
     let given = book.answer(
         b"_DMARC.EXAMPLE.COM",

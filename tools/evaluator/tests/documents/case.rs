@@ -3,11 +3,12 @@
 use std::collections::HashMap;
 
 use crate::octets::tx;
+use evaluator::book::Book;
 use evaluator::domain::Domain;
 use evaluator::evaluate::{evaluate, Evaluation, Progress};
+use evaluator::message::Message;
 use evaluator::policy::Policy;
 use evaluator::refusal::Refusal;
-use evaluator::start::{start, GivenIdentifier, GivenMessage};
 use evaluator::txt::{Answer, Status};
 use evaluator::verdict::{Alignment, AppliedPolicy, Verdict};
 use evaluator::walk::{organizational, AskedName};
@@ -100,25 +101,33 @@ impl Case {
         }
     }
 
-    pub fn given(&self) -> GivenMessage<'_> {
-        GivenMessage {
-            author: self.author.as_bytes(),
-            existence: self.existence,
-            support: self.support,
-            identifiers: self
-                .identifiers
-                .iter()
-                .map(|(kind, outcome, domain)| GivenIdentifier {
-                    kind: *kind,
-                    outcome: *outcome,
-                    domain: domain.as_bytes(),
-                })
-                .collect(),
+    /// The message opened, and its identifiers added in turn.
+    pub fn message(&self) -> Result<Message, Refusal> {
+        let mut message = Message::open(self.author.as_bytes(), self.existence, self.support)?;
+        for (kind, outcome, domain) in &self.identifiers {
+            message.add(*kind, *outcome, domain.as_bytes())?;
         }
+        Ok(message)
+    }
+
+    /// The message opened in a book that stands as it may, and its identifiers
+    /// added in turn.
+    pub fn open_in(&self, book: &mut Book) -> Result<(), Refusal> {
+        book.open(self.author.as_bytes(), self.existence, self.support)?;
+        let mut identifiers = self.identifiers.iter();
+        identifiers
+            .try_for_each(|(kind, outcome, domain)| book.add(*kind, *outcome, domain.as_bytes()))
+    }
+
+    /// A book with this message.
+    pub fn book(&self) -> Book {
+        let mut book = Book::default();
+        self.open_in(&mut book).expect("an accepted message");
+        book
     }
 
     pub fn evaluation(&self) -> Evaluation {
-        let message = start(&self.given()).expect("a message that the start accepts");
+        let message = self.message().expect("an accepted message");
         evaluate(&message, |name| Some(self.lookup(name)))
     }
 

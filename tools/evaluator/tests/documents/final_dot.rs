@@ -4,10 +4,10 @@ use crate::case::{case, domain_of, refusal, words};
 use crate::octets::{an, an_none, an_text, au, id, printed, run, E};
 use evaluator::book::{Book, Step};
 use evaluator::domain::{fault, without_dot, Domain};
+use evaluator::message::Message;
 use evaluator::refusal::Refusal;
 use evaluator::report::{file_name, FileName};
 use evaluator::rows::{DayList, Entry, Finding, Row};
-use evaluator::start::{start, GivenIdentifier, GivenMessage};
 use evaluator::txt::Answer;
 
 /// Three labels of 63 octets and one of so many.
@@ -76,23 +76,11 @@ fn point_135_judged_without_the_dot() {
     }
 }
 
-fn identifier(domain: &[u8]) -> GivenIdentifier<'_> {
-    GivenIdentifier {
-        kind: 1,
-        outcome: 1,
-        domain,
-    }
-}
-
-/// How a start ends with these domains.
-fn started(author: &[u8], domains: &[&[u8]]) -> Result<(), Refusal> {
-    let given = GivenMessage {
-        author,
-        existence: 1,
-        support: 1,
-        identifiers: domains.iter().map(|domain| identifier(domain)).collect(),
-    };
-    start(&given).map(|_| ())
+/// How a message of these domains ends.
+fn given(author: &[u8], domains: &[&[u8]]) -> Result<(), Refusal> {
+    let mut message = Message::open(author, 1, 1)?;
+    let mut domains = domains.iter();
+    domains.try_for_each(|domain| message.add(1, 1, domain))
 }
 
 #[test]
@@ -100,13 +88,13 @@ fn point_135_refusals_1_and_2() {
     for (text, place) in places() {
         let text = text.as_bytes();
         let author = place.map_or(Ok(()), |place| Err(refusal(1, place)));
-        assert_eq!(started(text, &[]), author, "{}", text.escape_ascii());
+        assert_eq!(given(text, &[]), author, "{}", text.escape_ascii());
         // "the index"
         let second = place.map_or(Ok(()), |_| Err(refusal(2, 1)));
-        assert_eq!(started(b"a", &[b"b", text]), second);
+        assert_eq!(given(b"a", &[b"b", text]), second);
     }
-    assert_eq!(started(b".", &[b"."]), Err(refusal(1, 0)));
-    assert_eq!(started(b"a.", &[b".", b".."]), Err(refusal(2, 0)));
+    assert_eq!(given(b".", &[b"."]), Err(refusal(1, 0)));
+    assert_eq!(given(b"a.", &[b".", b".."]), Err(refusal(2, 0)));
 }
 
 #[test]
@@ -176,13 +164,7 @@ fn point_136_labels_are_counted_without_the_dot() {
 /// A book that now asks `_dmarc.example.com`.
 fn asking() -> Book {
     let mut book = Book::default();
-    let given = GivenMessage {
-        author: b"example.com.",
-        existence: 1,
-        support: 1,
-        identifiers: Vec::new(),
-    };
-    assert_eq!(book.start(&given), Ok(()));
+    assert_eq!(book.open(b"example.com.", 1, 1), Ok(()));
     let Ok(Step::Ask(asked)) = book.next_step() else {
         panic!("a name is asked");
     };

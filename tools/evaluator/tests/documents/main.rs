@@ -1,19 +1,20 @@
-//! Tests whose expected values come from the documents: document 01, Asks 1
-//! to 5 of document 02, the agreed readings (by their point numbers) and RFC 9989.
+//! Tests whose expected values come from the documents: document 01, Asks 1 to 5
+//! and 8 of document 02, the agreed readings (by their point numbers) and RFC 9989.
 
 mod case;
 mod octets;
 
+mod adding;
 mod answers;
 mod book;
 mod disposition;
 mod final_dot;
 mod labels;
+mod opening;
 mod policy_text;
 mod publishing;
 mod repeated_tags;
 mod report;
 mod rows;
 mod sheets;
-mod starting;
 mod walks;

@@ -2,10 +2,9 @@
 
 use crate::case::{case, refusal, words};
 use crate::octets::E;
+use evaluator::message::Kind::{self, Dkim, Spf};
 use evaluator::refusal::Refusal;
 use evaluator::report::{field_text, file_name, identity_alignment, FileName};
-use evaluator::start::Kind::{Dkim, Spf};
-use evaluator::start::{start, Kind};
 use evaluator::verdict::Alignment::{self, Aligned, NotAligned, Unknown};
 
 const SAMPLE: FileName = FileName {
@@ -134,7 +133,7 @@ fn point_98_unknown_alignments_in_the_field() {
         .dkim("other.org");
     let verdict = case.verdict();
     assert_eq!(words(&verdict.alignments), ["aligned", "unknown"]);
-    let message = start(&case.given()).unwrap();
+    let message = case.message().unwrap();
     let text = field_text(&message, &verdict);
     assert_eq!(text, Ok(b"Identity-Alignment: dkim\r\n".to_vec()));
 }
@@ -148,7 +147,7 @@ fn point_99_none() {
     let case = case("example.com")
         .text("example.com", E)
         .spf("example.com");
-    let message = start(&case.given()).unwrap();
+    let message = case.message().unwrap();
     let text = field_text(&message, &case.verdict());
     assert_eq!(text, Ok(b"Identity-Alignment: none\r\n".to_vec()));
 }

@@ -327,7 +327,7 @@ fn point_123_the_sum_of_the_counts() {
 fn finding(case: &Case) -> (u8, u8, bool, bool, String) {
     let mut book = Book::default();
     assert_eq!(book.finding(), Err(refusal(7, 0)));
-    assert_eq!(book.start(&case.given()), Ok(()));
+    assert_eq!(case.open_in(&mut book), Ok(()));
     while let Ok(Step::Ask(asked)) = book.next_step() {
         assert_eq!(book.finding(), Err(refusal(7, 0)));
         let answered = book.answer(&asked.name, case.lookup(&asked.name), &mut [0; 4096]);

@@ -2,8 +2,7 @@
 
 use super::words::{word, EXISTENCES, KINDS, OUTCOMES, SUPPORTS};
 use crate::written::{cut, hex};
-use evaluator::sheet::{self, GivenAnswer};
-use evaluator::start::{GivenIdentifier, GivenMessage};
+use evaluator::sheet::{self, GivenAnswer, GivenIdentifier, GivenMessage};
 use evaluator::txt::{self, Status};
 
 /// Describes a sheet. What is no well-formed sheet is given as `sheet hex ...`.

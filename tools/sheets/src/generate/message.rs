@@ -1,4 +1,4 @@
-//! Messages that a start accepts, with their answers.
+//! Messages that are accepted, with their answers.
 
 use std::collections::HashSet;
 

@@ -4,8 +4,8 @@
 //! body of that length. Each call has one line; the reference's book gives it.
 //! Lent memory comes filled with octet 255.
 //!
-//! - `S`, a start: existence, support, author after a length octet, then the
-//!   identifiers as records of a sheet, packed as `packing::unpacked` takes them.
+//! - `O`, an opening: existence, support, then the author domain.
+//! - `I`, an identifier added: kind, outcome, then the domain.
 //! - `N`, the next step, and `R`, the result: no body.
 //! - `A`, an answer: status (0 records, 1 none, 2 error), 16-bit scratch size,
 //!   name after a length octet, the answer's bytes.
@@ -15,14 +15,13 @@
 //!   of a kind is aligned (0, 1), and the applied record's domain.
 
 mod accepted;
+mod adding;
 mod call;
 mod long;
-mod packing;
 mod refused;
 mod scramble;
 
-pub use call::{AnswerCall, Call, StartCall};
-pub use packing::packed;
+pub use call::{AddCall, AnswerCall, Call, OpenCall};
 
 use super::cases::Files;
 use scramble::Made;
@@ -31,7 +30,7 @@ use scramble::Made;
 /// long for its length.
 pub fn files() -> Result<Files, String> {
     let plans = accepted::messages();
-    written(plans.map(|plans| scramble::scrambled(&plans, refused::messages())))
+    written(plans.map(|plans| scramble::scrambled(&plans)))
 }
 
 /// The calls of so many random messages of a seed, with the same error.

@@ -1,12 +1,11 @@
 //! Messages whose walks are all of full length, for measuring time.
 //!
 //! A file is a 32-bit count (high octet first), then the calls of one message
-//! in the form of `calls`: its start, then next step and answer in turn up to
-//! the verdict. Another program makes these calls that many times.
+//! in the form of `calls`: its opening, its identifiers, then next step and
+//! answer in turn up to the verdict. Another program makes these calls that many times.
 
-use crate::programs::calls::{packed, AnswerCall, Call, StartCall};
+use crate::programs::calls::{AddCall, AnswerCall, Call, OpenCall};
 use evaluator::book::{Book, Step};
-use evaluator::start::GivenIdentifier;
 use evaluator::txt::Status;
 
 /// Numbers of identifiers, and lengths of the walks.
@@ -18,7 +17,7 @@ const RECORD: &[u8] = b"TX\0\x13\x12v=DMARC1; p=reject";
 /// A file, or nothing if some part of a call is too long for its length.
 pub fn file(count: u32, identifiers: usize, labels: usize) -> Option<Vec<u8>> {
     let mut octets = count.to_be_bytes().to_vec();
-    for call in message(identifiers, labels)? {
+    for call in message(identifiers, labels) {
         octets.extend(call.octets()?);
     }
     Some(octets)
@@ -36,22 +35,15 @@ fn domain(labels: usize, number: usize) -> String {
 
 /// The calls of a message: identifiers that pass, of domains that have no
 /// record; the author's own has one, which is relaxed.
-fn message(identifiers: usize, labels: usize) -> Option<Vec<Call>> {
-    let domains: Vec<String> = (1..=identifiers).map(|at| domain(labels, at)).collect();
-    let given = domains.iter().map(|domain| GivenIdentifier {
-        kind: 1,
-        outcome: 1,
-        domain: domain.as_bytes(),
-    });
-    let given: Vec<GivenIdentifier> = given.collect();
-    let mut calls = vec![Call::Start(StartCall {
-        existence: 1,
-        support: 1,
-        author: domain(labels, 0).into_bytes(),
-        packed: packed(&given)?,
-    })];
+fn message(identifiers: usize, labels: usize) -> Vec<Call> {
+    let domain = |number| domain(labels, number).into_bytes();
+    let mut calls = vec![Call::Open(OpenCall::of(&domain(0)))];
+    let added = (1..=identifiers).map(|number| Call::Add(AddCall::new(1, 1, &domain(number))));
+    calls.extend(added);
     let mut book = Book::default();
-    calls.first()?.line(&mut book);
+    for call in &calls {
+        call.line(&mut book);
+    }
     while let Ok(Step::Ask(asked)) = book.next_step() {
         let own = asked.walk == 0 && asked.place == 0;
         let (status, bytes) = match own {
@@ -68,5 +60,5 @@ fn message(identifiers: usize, labels: usize) -> Option<Vec<Call>> {
         calls.extend([Call::Next, answer]);
     }
     calls.push(Call::Next);
-    Some(calls)
+    calls
 }

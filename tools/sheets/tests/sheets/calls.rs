@@ -11,25 +11,31 @@ fn calls() -> Vec<Call> {
     cases(files())
 }
 
-/// Existence, support, author after a length octet, packed identifiers.
-fn start(existence: u8, support: u8, author: &[u8], identifiers: &[Vec<u8>]) -> Vec<u8> {
-    let head = [existence, support, author.len() as u8];
-    [&head, author, &identifiers.concat()].concat()
+/// The bodies of a message's opening and of its identifiers.
+type Message = (Vec<u8>, Vec<Vec<u8>>);
+
+/// Existence, support, author; and the identifiers.
+fn message(existence: u8, support: u8, author: &[u8], identifiers: &[Vec<u8>]) -> Message {
+    (item(existence, support, author), identifiers.to_vec())
 }
 
-/// A mark, a 16-bit length, kind, outcome, domain.
-fn item(kind: u8, outcome: u8, domain: &[u8]) -> Vec<u8> {
-    let head = [b'I', b'D', 0, domain.len() as u8 + 2, kind, outcome];
-    [head.as_slice(), domain].concat()
+/// Two numbers and a domain: existence, support, author; or kind, outcome, domain.
+fn item(first: u8, second: u8, domain: &[u8]) -> Vec<u8> {
+    [&[first, second], domain].concat()
 }
 
-/// The calls after each accepted start with this body, up to the next accepted
-/// start.
-fn messages<'a>(calls: &'a [Call], body: &[u8]) -> Vec<&'a [Call]> {
-    let parts = calls.split_inclusive(|(_, _, line)| line == "start accepted");
+/// The calls after each accepted opening of this message, up to the next accepted
+/// opening.
+fn messages<'a>(calls: &'a [Call], (open, identifiers): &Message) -> Vec<&'a [Call]> {
+    let parts = calls.split_inclusive(|(_, _, line)| line == "open accepted");
     let parts: Vec<&[Call]> = parts.collect();
-    let begins = |part: &[Call]| part.last().is_some_and(|call| call.1 == body);
-    let pairs = parts.windows(2).filter(|pair| begins(pair[0]));
+    let begins = |part: &[Call]| part.last().is_some_and(|call| call.1 == *open);
+    let added = |part: &[Call]| {
+        let accepted = part.iter().filter(|(_, _, line)| line == "add accepted");
+        accepted.map(|call| &call.1).eq(identifiers)
+    };
+    let pairs = parts.windows(2);
+    let pairs = pairs.filter(|pair| begins(pair[0]) && added(pair[1]));
     pairs.map(|pair| pair[1]).collect()
 }
 
@@ -53,15 +59,15 @@ fn said(calls: &[Call]) -> (Vec<&str>, Vec<&str>, Vec<&str>) {
 
 /// Checks that there is a message that asks these names and gives this verdict,
 /// twice by each of both calls, and twice this finding.
-fn check(calls: &[Call], body: &[u8], names: &[&str], verdict: &str, finding: &str) {
-    let said: Vec<_> = messages(calls, body).into_iter().map(said).collect();
+fn check(calls: &[Call], given: &Message, names: &[&str], verdict: &str, finding: &str) {
+    let said: Vec<_> = messages(calls, given).into_iter().map(said).collect();
     let expected = (names.to_vec(), vec![verdict; 4], vec![finding; 2]);
     assert!(said.contains(&expected), "{expected:?} is none of {said:?}");
 }
 
-/// Start, names asked, result with policy and disposition, domain, alignments,
+/// Message, names asked, result with policy and disposition, domain, alignments,
 /// and the numbers of result, disposition, DKIM and SPF that would be entered.
-type Row<'a> = (Vec<u8>, &'a [&'a str], &'a str, &'a str, &'a str, [u8; 4]);
+type Row<'a> = (Message, &'a [&'a str], &'a str, &'a str, &'a str, [u8; 4]);
 
 /// A verdict's words: result, policy and disposition are the first three.
 fn verdict(count: usize, words: &str, domain: &str, alignments: &str) -> String {
@@ -82,14 +88,14 @@ fn marked_sheets() {
     let calls = calls();
     let dkim = |domain: &[u8]| vec![item(1, 1, domain)];
     let spf = |domain: &[u8]| vec![item(0, 1, domain)];
-    let example = |support| start(1, support, b"example.com", &spf(b"mail.example.com"));
-    let news = |existence| start(existence, 1, b"news.example.com", &[]);
+    let example = |support| message(1, support, b"example.com", &spf(b"mail.example.com"));
+    let news = |existence| message(existence, 1, b"news.example.com", &[]);
     let walk = ["news.example.com", "example.com", "com"];
     let own: &[&str] = &["example.com"];
-    let alone = || start(1, 1, b"example.com", &[]);
+    let alone = || message(1, 1, b"example.com", &[]);
     let table: [Row; 15] = [
         (
-            start(1, 1, b"example.com", &dkim(b"mail.example.com")),
+            message(1, 1, b"example.com", &dkim(b"mail.example.com")),
             &["example.com", "com", "mail.example.com"],
             "pass reject none",
             "example.com",
@@ -146,7 +152,7 @@ fn marked_sheets() {
             [3, 3, 0, 0],
         ),
         (
-            start(1, 1, b"a.shop.example", &dkim(b"shop.example")),
+            message(1, 1, b"a.shop.example", &dkim(b"shop.example")),
             &["a.shop.example", "shop.example", "example"],
             "pass reject none",
             "example",
@@ -154,7 +160,7 @@ fn marked_sheets() {
             [1, 0, 1, 0],
         ),
         (
-            start(1, 1, b"example", &dkim(b"shop.example")),
+            message(1, 1, b"example", &dkim(b"shop.example")),
             &["example", "shop.example"],
             "fail reject reject",
             "example",
@@ -162,7 +168,7 @@ fn marked_sheets() {
             [2, 2, 0, 0],
         ),
         (
-            start(1, 1, b"EXAMPLE.com", &spf(b"example.COM")),
+            message(1, 1, b"EXAMPLE.com", &spf(b"example.COM")),
             &["example.com"],
             "pass reject none",
             "example.com",
@@ -170,7 +176,7 @@ fn marked_sheets() {
             [1, 0, 0, 1],
         ),
         (
-            start(1, 1, b"a.b.c.d.e.f.g.h.test", &[]),
+            message(1, 1, b"a.b.c.d.e.f.g.h.test", &[]),
             &[
                 "a.b.c.d.e.f.g.h.test",
                 "c.d.e.f.g.h.test",
@@ -220,9 +226,9 @@ fn marked_sheets() {
             [2, 0, 0, 0],
         ),
     ];
-    for (body, names, words, domain, alignments, entered) in table {
+    for (given, names, words, domain, alignments, entered) in table {
         let verdict = verdict(names.len(), words, domain, alignments);
-        check(&calls, &body, names, &verdict, &finding(entered, domain));
+        check(&calls, &given, names, &verdict, &finding(entered, domain));
     }
 }
 
@@ -232,7 +238,7 @@ fn one_tag_twice() {
     let calls = calls();
     let of = |kind| {
         let identifier = item(kind, 1, b"mail.example.com");
-        start(1, 1, b"twice.example.com", &[identifier])
+        message(1, 1, b"twice.example.com", &[identifier])
     };
     let names = [
         "twice.example.com",
@@ -257,9 +263,10 @@ fn as_many_names_as_there_can_be() {
             item(u8::from(number != 9), 1, domain.as_bytes())
         })
         .collect();
-    let body = start(1, 1, b"a.b.c.d.e.f.g.t", &identifiers);
-    let found = messages(&calls, &body);
-    let (names, verdicts, findings) = said(found[0]);
+    let given = message(1, 1, b"a.b.c.d.e.f.g.t", &identifiers);
+    // It may be opened over before its verdict.
+    let found = messages(&calls, &given);
+    let (names, verdicts, findings) = said(found.last().expect("the message"));
     assert_eq!(names.len(), 136);
     let all = verdict(
         136,
@@ -273,104 +280,224 @@ fn as_many_names_as_there_can_be() {
 }
 
 #[test]
-fn refused_starts() {
+fn refused_openings() {
+    let calls = calls();
+    let table: [(Vec<u8>, &str); 9] = [
+        // "0 if empty", and where the first bad label begins.
+        (item(1, 1, b""), "1 at 0"),
+        (item(1, 1, b"."), "1 at 0"),
+        (item(1, 1, b".."), "1 at 0"),
+        (item(1, 1, b"com.."), "1 at 4"),
+        (item(1, 1, b"a b."), "1 at 0"),
+        (item(1, 1, b"a.b.c.\0"), "1 at 6"),
+        // 1 before 3.
+        (item(3, 2, b"a.b..c"), "1 at 4"),
+        (item(3, 1, b"other.test"), "3 at 255"),
+        (item(1, 2, b"other.test"), "3 at 255"),
+    ];
+    for (body, refusal) in table {
+        let found = calls.iter().find(|call| call.0 == b'O' && call.1 == body);
+        let (_, _, line) = found.unwrap_or_else(|| panic!("no opening {}", body.escape_ascii()));
+        assert_eq!(*line, format!("open refused {refusal}"));
+    }
+}
+
+/// 3, 4, 2 of an identifier after others; after a next step it is too late.
+#[test]
+fn refused_identifiers() {
     let calls = calls();
     let good = item(1, 1, b"example.com");
     let spf = item(0, 0, b"example.com");
     let bad = item(1, 1, b"example..com");
-    let sixteen = [spf.clone(), good.repeat(15)].concat();
-    let with =
-        |front: &[&[u8]], last: &[u8]| start(1, 1, b"other.test", &[front.concat(), last.to_vec()]);
-    let authored = |author: &[u8]| start(1, 1, author, &[item(1, 1, b"example.com")]);
-    let table: [(Vec<u8>, &str); 25] = [
-        // "0 if empty", and where the first bad label begins.
-        (authored(b""), "1 at 0"),
-        (authored(b"."), "1 at 0"),
-        (authored(b".."), "1 at 0"),
-        (authored(b"com.."), "1 at 4"),
-        (authored(b"a b."), "1 at 0"),
-        (authored(b"a.b.c.\0"), "1 at 6"),
-        // 1 before any 3.
-        (start(3, 2, b"a.b..c", &[item(2, 3, b"")]), "1 at 4"),
-        // The message's 3 before the identifiers.
+    let sixteen = [vec![spf.clone()], vec![good.clone(); 15]].concat();
+    let table = [
+        (vec![], item(2, 1, b"example.com"), "3 at 0"),
         (
-            start(3, 1, b"other.test", &[item(2, 1, b"a..b")]),
-            "3 at 255",
+            vec![good.clone(), spf.clone()],
+            item(255, 255, b""),
+            "3 at 2",
         ),
-        // 3, 4, 2
-        (with(&[&good], &item(2, 0, b"a..b")), "3 at 1"),
-        (with(&[&spf], &spf), "4 at 1"),
-        (with(&[&spf, &good], &item(0, 1, b"a..b")), "4 at 2"),
-        (with(&[&spf], &item(0, 3, b"a.b")), "3 at 1"),
-        (with(&[&sixteen], &bad), "4 at 16"),
-        (with(&[&sixteen], &item(2, 1, b"a.b")), "3 at 16"),
-        (with(&[&good, &bad], &item(9, 9, b"")), "2 at 1"),
+        (vec![good.clone()], item(2, 0, b"a..b"), "3 at 1"),
+        (vec![spf.clone()], spf.clone(), "4 at 1"),
+        (
+            vec![spf.clone(), good.clone()],
+            item(0, 1, b"a..b"),
+            "4 at 2",
+        ),
+        (vec![spf.clone()], item(0, 3, b"a.b"), "3 at 1"),
+        (sixteen.clone(), good.clone(), "4 at 16"),
+        (sixteen.clone(), bad.clone(), "4 at 16"),
+        (sixteen.clone(), item(2, 1, b"a.b"), "3 at 16"),
+        (vec![], bad.clone(), "2 at 0"),
+        (vec![good.clone()], bad, "2 at 1"),
         // Final dots.
-        (with(&[], &item(1, 1, b".")), "2 at 0"),
-        (with(&[&good], &item(0, 1, b"..")), "2 at 1"),
-        (with(&[], &item(1, 2, b"a.b..")), "2 at 0"),
-        // The mark is not looked at.
-        (with(&[b"AN\0\x05\x01\x01a.b"], &bad), "2 at 1"),
-        // Cut: a number that is not there is not listed, and a domain that is
-        // not there whole is empty.
-        (with(&[&good], b"I"), "3 at 1"),
-        (with(&[], b"ID"), "3 at 0"),
-        (with(&[&good], b"ID\0"), "3 at 1"),
-        (with(&[], b"ID\0\x02\x01\x01"), "2 at 0"),
-        (with(&[&good], b"ID\0\xc8\x01\x01a"), "2 at 1"),
-        (with(&[&spf], b"ID\0\xc8\0\x01a"), "4 at 1"),
+        (vec![], item(1, 1, b"."), "2 at 0"),
+        (vec![good.clone()], item(0, 1, b".."), "2 at 1"),
+        (vec![], item(1, 2, b"a.b.."), "2 at 0"),
     ];
-    for (body, refusal) in table {
-        let found = calls.iter().find(|call| call.0 == b'S' && call.1 == body);
-        let (_, _, line) = found.unwrap_or_else(|| panic!("no start {}", body.escape_ascii()));
-        assert_eq!(*line, format!("start refused {refusal}"));
+    for (accepted, refused, refusal) in table {
+        let add = |body: &[u8], line: &str| (b'I', body.to_vec(), format!("add {line}"));
+        let opening = (b'O', item(1, 1, b"other.test"), "open accepted".to_string());
+        let mut expected = vec![opening];
+        expected.extend(accepted.iter().map(|body| add(body, "accepted")));
+        expected.push(add(&refused, &format!("refused {refusal}")));
+        expected.push((b'N', Vec::new(), "next ask _dmarc.other.test".to_string()));
+        expected.push(add(&refused, "refused 17 at 0"));
+        assert!(has(&calls, &expected), "{}", refused.escape_ascii());
     }
 }
 
+/// Whether these calls come, with these lines, one after the other.
+fn has(calls: &[Call], wanted: &[Call]) -> bool {
+    calls.windows(wanted.len()).any(|part| part == wanted)
+}
+
+/// Kind, body and line of a call.
+type Expected<'a> = (u8, Vec<u8>, &'a str);
+
+/// Checks that these calls come one after the other.
+fn check_row(row: &[Expected]) {
+    let call = |(kind, body, line): &Expected| (*kind, body.clone(), line.to_string());
+    let wanted: Vec<Call> = row.iter().map(call).collect();
+    assert!(has(&calls(), &wanted), "{wanted:?}");
+}
+
+/// An identifier of the author, one of kind 2 and one with a bad domain, and how
+/// they end.
+fn any<'a>(lines: [&'a str; 3]) -> [Expected<'a>; 3] {
+    let [good, kind_2, bad] = lines;
+    [
+        (b'I', item(1, 1, b"example.com"), good),
+        (b'I', item(2, 1, b"example.com"), kind_2),
+        (b'I', item(1, 1, b"a..b"), bad),
+    ]
+}
+
+const LATE: &str = "add refused 17 at 0";
+
+/// Readings 141 to 143.
+#[test]
+fn added_in_time_and_too_late() {
+    let asked = b"\x12_dmarc.example.com";
+    let record = b"TX\0\x22\x21v=DMARC1; p=reject;adkim=s;aspf=s";
+    let answer = [b"\0\x10\0".as_slice(), asked, record].concat();
+    let own = verdict(1, "pass reject none", "example.com", "nan");
+    let [result, next] = ["result", "next"].map(|call| format!("{call} verdict {own}"));
+    let late = || any([LATE; 3]);
+    let mut row = vec![
+        (b'O', item(1, 1, b"example.com"), "open accepted"),
+        (b'R', vec![], "result refused 7 at 0"),
+        (b'I', item(1, 1, b"a.example"), "add accepted"),
+        (b'F', vec![0, 64], "field refused 7 at 0 out=0:6232:"),
+        (b'I', item(0, 1, b"Example.com."), "add accepted"),
+        (b'D', vec![], "finding refused 7 at 0"),
+        (b'I', item(0, 0, b"b.example"), "add refused 4 at 2"),
+        (b'I', item(0, 3, b"b.example"), "add refused 3 at 2"),
+        (b'I', item(1, 1, b"a..b"), "add refused 2 at 2"),
+        (
+            b'A',
+            answer.clone(),
+            "answer refused 5 at 0 scratch=0:29025",
+        ),
+        (b'O', item(1, 1, b"a..b"), "open refused 1 at 2"),
+        (b'I', item(1, 1, b"mail.example.com"), "add accepted"),
+        (b'I', item(2, 2, b""), "add refused 3 at 3"),
+        (b'N', vec![], "next ask _dmarc.example.com"),
+    ];
+    row.extend(late());
+    row.extend([
+        (b'O', item(1, 1, b".."), "open refused 1 at 0"),
+        (b'I', item(1, 1, b"a.example"), LATE),
+        (b'N', vec![], "next ask _dmarc.example.com"),
+        (b'I', item(0, 1, b"a.example"), LATE),
+        (b'A', answer, "answer accepted scratch=33:3583"),
+    ]);
+    row.extend(late());
+    row.push((b'R', vec![], &result));
+    row.extend(late());
+    row.push((b'N', vec![], &next));
+    row.extend(late());
+    let field = "field wrote 26 out=26:11657:\
+                 4964656e746974792d416c69676e6d656e743a20646b696d0d0a";
+    row.push((b'F', vec![0, 64], field));
+    check_row(&row);
+}
+
+/// Reading 142, and an opening over a running evaluation.
+#[test]
+fn opened_over_a_running_evaluation() {
+    let spf = || item(0, 1, b"example.com");
+    let row = [
+        (b'O', item(1, 1, b"example.com"), "open accepted"),
+        (b'I', spf(), "add accepted"),
+        (b'I', item(1, 1, b"a.example"), "add accepted"),
+        (b'O', item(1, 1, b"example.org"), "open accepted"),
+        (b'I', spf(), "add accepted"),
+        (b'I', spf(), "add refused 4 at 1"),
+        (b'N', vec![], "next ask _dmarc.example.org"),
+        (b'O', item(1, 1, b"example.net"), "open accepted"),
+        (b'I', item(2, 1, b"a.example"), "add refused 3 at 0"),
+        (b'I', spf(), "add accepted"),
+        (b'N', vec![], "next ask _dmarc.example.net"),
+        (b'I', spf(), LATE),
+    ];
+    check_row(&row);
+}
+
+#[test]
+fn a_17th_identifier() {
+    let mut row = vec![(b'O', item(1, 1, b"example.com"), "open accepted")];
+    for number in 0..16 {
+        let domain = format!("d{number}.example");
+        row.push((b'I', item(1, 0, domain.as_bytes()), "add accepted"));
+    }
+    row.extend(any([
+        "add refused 4 at 16",
+        "add refused 3 at 16",
+        "add refused 4 at 16",
+    ]));
+    row.push((b'I', item(0, 1, b"example.com"), "add refused 4 at 16"));
+    row.push((b'N', vec![], "next ask _dmarc.example.com"));
+    row.extend(any([LATE; 3]));
+    check_row(&row);
+}
+
 /// "Only the length is wrong", with a label that begins after octet 253 or not;
-/// 253 octets and a final dot, and two of them.
+/// a bad label that begins after it; 253 octets and a final dot, and two of them.
 #[test]
 fn authors_over_253_octets() {
     let mut said = BTreeMap::new();
     for (kind, body, line) in calls() {
-        if kind == b'S' && body[2] > 253 {
-            let author = &body[3..3 + usize::from(body[2])];
+        if kind == b'O' && body.len() > 255 {
+            let author = &body[2..];
             let expected = match author {
-                _ if author.contains(&b' ') => "start refused 1 at 252",
-                [.., b'.', b'.'] => "start refused 1 at 254",
-                [.., b'.'] if author.len() == 254 => "start accepted",
-                _ => "start refused 1 at 253",
+                _ if author.contains(&b' ') && author.len() == 303 => "open refused 1 at 300",
+                _ if author.contains(&b' ') => "open refused 1 at 252",
+                [.., b'.', b'.'] => "open refused 1 at 254",
+                [.., b'.'] if author.len() == 254 => "open accepted",
+                _ => "open refused 1 at 253",
             };
             assert_eq!(line, expected);
             *said.entry(expected).or_insert(0) += 1;
         }
     }
-    assert_eq!(said.len(), 4, "{said:?}");
+    assert_eq!(said.len(), 5, "{said:?}");
 }
 
 /// Readings 134 and 136.
 #[test]
 fn final_dots() {
     let calls = calls();
-    let body = start(
-        1,
-        1,
-        b"Example.com.",
-        &[
-            item(0, 1, b"example.com"),
-            item(1, 1, b"mail.example.com."),
-            item(1, 1, b"Mail.Example.com"),
-        ],
-    );
+    let identifiers = [
+        item(0, 1, b"example.com"),
+        item(1, 1, b"mail.example.com."),
+        item(1, 1, b"Mail.Example.com"),
+    ];
+    let given = message(1, 1, b"Example.com.", &identifiers);
     let names = ["example.com", "com", "mail.example.com"];
     let own = verdict(3, "pass reject none", "example.com", "ann");
-    check(
-        &calls,
-        &body,
-        &names,
-        &own,
-        &finding([1, 0, 0, 1], "example.com"),
-    );
+    let entered = finding([1, 0, 0, 1], "example.com");
+    check(&calls, &given, &names, &own, &entered);
 }
 
 /// Answers to the name now asked whose own spelling has one final dot or two.
@@ -399,8 +526,9 @@ fn final_dots_of_answers() {
 }
 
 #[test]
-fn nothing_started() {
-    let lines: Vec<String> = calls().into_iter().take(7).map(|call| call.2).collect();
+fn nothing_opened() {
+    let calls = calls();
+    let lines: Vec<&str> = calls.iter().map(|call| call.2.as_str()).take(7).collect();
     // An untouched memory of n octets has the sum 255 n (n + 1) / 2, less a
     // multiple of 65,521: 6,232 for 64 and 29,025 for 4,096.
     let expected = [
@@ -413,6 +541,18 @@ fn nothing_started() {
         "answer refused 5 at 0 scratch=0:0",
     ];
     assert_eq!(lines, expected);
+    // Whatever is added comes before an opening; with a refused one, and again.
+    let opened = calls.iter().position(|call| call.2 == "open accepted");
+    let (before, _) = calls.split_at(opened.expect("an accepted opening"));
+    let added: Vec<&Call> = before.iter().filter(|call| call.0 == b'I').collect();
+    assert!(added.iter().all(|call| call.2 == "add refused 17 at 0"));
+    for given in [
+        item(1, 1, b"mail.example.com"),
+        item(255, 255, b"a..b"),
+        item(0, 1, b"a..b"),
+    ] {
+        assert_eq!(added.iter().filter(|call| call.1 == given).count(), 2);
+    }
 }
 
 /// How many calls there are of each kind and with each first word or refusal.
@@ -445,6 +585,11 @@ pub fn check_endings(calls: &[Call], least: &[(&str, usize)]) {
 #[test]
 fn every_refusal_of_every_call() {
     let least = [
+        ("add 17", 100),
+        ("add 2", 15),
+        ("add 3", 15),
+        ("add 4", 10),
+        ("add accepted", 400),
         ("answer 10", 100),
         ("answer 5", 100),
         ("answer 6", 100),
@@ -462,18 +607,16 @@ fn every_refusal_of_every_call() {
         ("next 7", 3),
         ("next ask", 500),
         ("next verdict", 200),
+        ("open 1", 26),
+        ("open 3", 5),
+        ("open accepted", 180),
         ("result 7", 50),
         ("result verdict", 200),
-        ("start 1", 17),
-        ("start 2", 10),
-        ("start 3", 19),
-        ("start 4", 7),
-        ("start accepted", 160),
     ];
     check_endings(&calls(), &least);
 }
 
-/// What would be entered is asked for at a start, at an asked name, between two
+/// What would be entered is asked for at an opening, at an asked name, between two
 /// names, where the last answer came, and where the verdict was given; and it is
 /// there exactly at the verdict.
 #[test]
@@ -487,7 +630,8 @@ fn findings_come_everywhere() {
         assert!(body.is_empty());
         let given = line != "finding refused 7 at 0";
         let kinds = [
-            "start accepted",
+            "open accepted",
+            "add accepted",
             "next ask",
             "answer accepted",
             "next verdict",
@@ -496,13 +640,14 @@ fn findings_come_everywhere() {
         *places.entry((kind.unwrap_or("other"), given)).or_default() += 1;
     }
     let least = [
+        ("add accepted", false),
         ("answer accepted", false),
         ("answer accepted", true),
         ("next ask", false),
         ("next verdict", true),
+        ("open accepted", false),
         ("other", false),
         ("other", true),
-        ("start accepted", false),
     ];
     assert_eq!(places.keys().copied().collect::<Vec<_>>(), least);
     assert!(places.values().all(|count| *count >= 5), "{places:?}");
@@ -524,6 +669,59 @@ pub fn check_lent(calls: &[Call]) {
 #[test]
 fn lent_memory() {
     check_lent(&calls());
+}
+
+/// Checks the calls that add, by the lines alone: 17 at 0 exactly where nothing
+/// was opened or a next step was taken, 2 to 4 at the number of identifiers that
+/// were accepted, and as many alignments of a verdict.
+pub fn check_adds(calls: &[Call]) {
+    let mut accepted = None;
+    let mut asked = false;
+    for (kind, _, line) in calls {
+        let words: Vec<&str> = line.split(' ').collect();
+        match words.as_slice() {
+            ["open", "accepted"] => (accepted, asked) = (Some(0), false),
+            ["next", "ask" | "verdict", ..] => asked = true,
+            _ => {}
+        }
+        if let Some((_, rest)) = line.split_once(" alignments=") {
+            let letters = rest.split(' ').next().map(str::len);
+            assert_eq!(letters, accepted, "{line}");
+        }
+        let in_time = accepted.as_mut().filter(|_| !asked);
+        match (words.as_slice(), in_time) {
+            (["add", "accepted"], Some(index)) => *index += 1,
+            (["add", "refused", "2" | "3" | "4", "at", place], Some(index)) => {
+                assert_eq!(*place, index.to_string());
+            }
+            (["add", "refused", "17", "at", "0"], None) => {}
+            _ => assert_ne!(*kind, b'I', "{line}"),
+        }
+    }
+}
+
+/// Checks that identifiers are accepted right after these refused calls, and that
+/// openings come right after these calls, each so often at least.
+pub fn check_neighbours(calls: &[Call], least: usize) {
+    let follows = |before: &str, after: &str| {
+        let pairs = calls.windows(2);
+        let found = pairs.filter(|pair| pair[0].2.starts_with(before) && pair[1].2 == after);
+        let count = found.count();
+        assert!(count >= least, "{count} of {before}, {after}");
+    };
+    for call in ["result", "field", "finding", "answer", "open", "add"] {
+        follows(&format!("{call} refused"), "add accepted");
+    }
+    for call in ["add accepted", "next ask", "answer accepted"] {
+        follows(call, "open accepted");
+    }
+}
+
+#[test]
+fn identifiers() {
+    let calls = calls();
+    check_adds(&calls);
+    check_neighbours(&calls, 1);
 }
 
 #[test]

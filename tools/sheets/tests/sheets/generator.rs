@@ -5,10 +5,10 @@ use std::collections::{BTreeMap, BTreeSet};
 use crate::octets::run;
 use evaluator::book::{Book, Step};
 use evaluator::domain::{without_dot, Domain};
+use evaluator::message::{Identifier, Kind, Message, Outcome};
 use evaluator::policy::{Mode, Settings};
 use evaluator::refusal::Refusal;
 use evaluator::sheet::{read, verdict, GivenAnswer, Sheet};
-use evaluator::start::{start, Identifier, Kind, Message, Outcome};
 use evaluator::txt::{reply, Answer, Reply, Status};
 use evaluator::verdict::{Alignment, DmarcResult, Verdict};
 use evaluator::walk::organizational;
@@ -32,8 +32,12 @@ fn answer_of<'a>(sheet: &Sheet<'a>, name: &[u8]) -> Answer<'a> {
 /// names and the verdict.
 fn in_turn(octets: &[u8]) -> Result<(Vec<Vec<u8>>, Verdict), Refusal> {
     let sheet = read(octets)?;
+    let given = &sheet.message;
     let mut book = Book::default();
-    book.start(&sheet.message)?;
+    book.open(given.author, given.existence, given.support)?;
+    for given in &given.identifiers {
+        book.add(given.kind, given.outcome, given.domain)?;
+    }
     let mut names = Vec::new();
     let mut scratch = [0; 4096];
     loop {
@@ -77,7 +81,7 @@ fn each_name_once_and_the_count_within_its_bound() {
         let distinct: BTreeSet<&[u8]> = names.iter().map(|asked| asked.name.as_slice()).collect();
         assert_eq!(distinct.len(), names.len());
         assert_eq!(verdict.asked, names.len());
-        let message = start(&read(&octets).unwrap().message).unwrap();
+        let message = read(&octets).unwrap().message.accepted().unwrap();
         let walked: BTreeSet<&[u8]> = message
             .identifiers
             .iter()
@@ -130,7 +134,7 @@ fn demand_2_pass_exactly_when_some_passing_domain_aligns() {
         {
             continue;
         }
-        let message = start(&sheet.message).unwrap();
+        let message = sheet.message.accepted().unwrap();
         let settings = applied(&sheet, &verdict);
         let mut passing = message.identifiers.iter();
         let passes = passing.any(|identifier| {
@@ -180,7 +184,7 @@ fn the_same_seed_gives_the_same_sheets() {
 /// What an ordinary sheet's run shows.
 fn features(octets: &[u8], seen: &mut BTreeMap<String, u64>) {
     let sheet = read(octets).unwrap();
-    let message = start(&sheet.message).unwrap();
+    let message = sheet.message.accepted().unwrap();
     let (names, verdict) = verdict(octets).unwrap();
     let mut note = |feature: String| *seen.entry(feature).or_default() += 1;
     let labels = message.author.label_count();

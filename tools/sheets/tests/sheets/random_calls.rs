@@ -3,12 +3,12 @@
 
 use std::collections::BTreeSet;
 
-use crate::calls::{check_endings, check_lent};
+use crate::calls::{check_adds, check_endings, check_lent, check_neighbours};
 use crate::program::output;
 use crate::stored::{cases, Case as Call};
 use sheets::programs::calls::random_files;
 
-const MESSAGES: u64 = 600;
+const MESSAGES: u64 = 700;
 const SEED: u64 = 41;
 
 fn calls() -> Vec<Call> {
@@ -29,6 +29,11 @@ fn the_same_seed_gives_the_same_files() {
 #[test]
 fn every_ending_of_every_call() {
     let least = [
+        ("add 17", 500),
+        ("add 2", 50),
+        ("add 3", 50),
+        ("add 4", 50),
+        ("add accepted", 1000),
         ("answer 10", 200),
         ("answer 5", 200),
         ("answer 6", 200),
@@ -46,13 +51,11 @@ fn every_ending_of_every_call() {
         ("next 7", 3),
         ("next ask", 2000),
         ("next verdict", 400),
+        ("open 1", 50),
+        ("open 3", 50),
+        ("open accepted", 400),
         ("result 7", 100),
         ("result verdict", 200),
-        ("start 1", 50),
-        ("start 2", 50),
-        ("start 3", 50),
-        ("start 4", 50),
-        ("start accepted", 400),
     ];
     check_endings(&calls(), &least);
 }
@@ -74,7 +77,14 @@ fn lent_memory() {
     check_lent(&calls());
 }
 
-/// A message that was started: the names it asked, and its verdict's count.
+#[test]
+fn identifiers() {
+    let calls = calls();
+    check_adds(&calls);
+    check_neighbours(&calls, 5);
+}
+
+/// A message that was opened: the names it asked, and its verdict's count.
 #[derive(Default)]
 struct Run<'a> {
     names: Vec<&'a str>,
@@ -86,7 +96,7 @@ struct Run<'a> {
 fn runs(calls: &[Call]) -> Vec<Run<'_>> {
     let mut runs: Vec<Run> = Vec::new();
     for (_, _, line) in calls {
-        if line == "start accepted" {
+        if line == "open accepted" {
             runs.push(Run::default());
         }
         let Some(run) = runs.last_mut() else {
@@ -124,7 +134,7 @@ fn verdicts_of_few_names_and_of_many() {
     assert!(counts.last() > Some(&80), "{counts:?}");
 }
 
-/// What a new start does to the name that was asked before it.
+/// What a new opening does to the name that was asked before it.
 #[test]
 fn answers_of_the_last_message() {
     let calls = calls();
@@ -136,7 +146,7 @@ fn answers_of_the_last_message() {
         if let Some(name) = before.strip_prefix("next ask ") {
             asked = Some(name);
         }
-        if *kind == b'A' && before == "start accepted" {
+        if *kind == b'A' && before == "open accepted" {
             assert!(line.starts_with("answer refused 5 at 0 "), "{line}");
             let name = &body[4..4 + usize::from(body[3])];
             let own = asked.is_some_and(|asked| asked.as_bytes().eq_ignore_ascii_case(name));
@@ -156,6 +166,13 @@ fn the_files_that_the_command_writes() {
     let stored = |name: &str| std::fs::read(dir.join(name)).expect("a written file");
     let files = random_files(5, 8).expect("files");
     assert!(stored("stdin") == files.cases && stored("stdout") == files.expected);
+    // How many calls there are of each kind.
+    let printed = String::from_utf8(written.stdout).expect("lines in UTF-8");
+    let count = |line: &str| line.get(2..)?.parse().ok();
+    let counts: Option<Vec<usize>> = printed.lines().map(count).collect();
+    let counts = counts.expect("a number on each line");
+    assert!(!counts.contains(&0), "{printed}");
+    assert_eq!(counts.iter().sum::<usize>(), files.kinds.len());
     std::fs::remove_dir_all(&dir).expect("the files go away");
     let refused = output(program, &["calls", path, "many", "8"], b"");
     assert_eq!(refused.stderr, b"COUNT is a number\n");

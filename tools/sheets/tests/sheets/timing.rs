@@ -12,10 +12,9 @@ fn every_walk_is_of_full_length() {
             assert_eq!(count, [0, 0, 0, 7]);
             let kinds: Vec<u8> = bodies(calls).iter().map(|(kind, _)| *kind).collect();
             let names = (identifiers + 1) * walk;
-            assert_eq!(
-                kinds,
-                [b"S".as_slice(), &b"NA".repeat(names), b"N"].concat()
-            );
+            let added = b"I".repeat(identifiers);
+            let turns = b"NA".repeat(names);
+            assert_eq!(kinds, [b"O", &added[..], &turns, b"N"].concat());
         }
     }
 }

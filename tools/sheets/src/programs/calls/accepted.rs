@@ -1,10 +1,9 @@
-//! Messages that a start accepts, each with its answers.
+//! Messages that are accepted, each with its answers.
 
 use std::collections::HashMap;
 
-use super::call::StartCall;
+use super::call::{AddCall, OpenCall};
 use super::long::longer;
-use super::packing::packed;
 use crate::description;
 use crate::examples::{Example, MARKED};
 use crate::generate;
@@ -20,7 +19,8 @@ const MOST_SHEET_OCTETS: usize = 1_100;
 /// A message, and its answers.
 #[derive(Clone, Debug)]
 pub struct Plan {
-    pub start: StartCall,
+    pub open: OpenCall,
+    pub adds: Vec<AddCall>,
     answers: HashMap<Vec<u8>, (Status, Vec<u8>)>,
     /// How a name without an answer is answered.
     pub missing: Status,
@@ -37,13 +37,16 @@ impl Plan {
             answers.insert(name, said);
         }
         let message = &sheet.message;
+        let identifiers = message.identifiers.iter();
         Some(Plan {
-            start: StartCall {
+            open: OpenCall {
+                author: message.author.to_vec(),
                 existence: message.existence,
                 support: message.support,
-                author: message.author.to_vec(),
-                packed: packed(&message.identifiers)?,
             },
+            adds: identifiers
+                .map(|given| AddCall::new(given.kind, given.outcome, given.domain))
+                .collect(),
             answers,
             missing: Status::None,
         })
@@ -60,7 +63,7 @@ impl Plan {
     }
 }
 
-/// Messages that a start accepts, or nothing if one cannot be written.
+/// Messages that are accepted, or nothing if one cannot be written.
 pub fn messages() -> Option<Vec<Plan>> {
     let mut texts: Vec<String> = MARKED.iter().map(Example::description).collect();
     texts.extend(DESCRIBED.iter().map(|text| text.to_string()));

@@ -1,19 +1,18 @@
 //! One call: its octets in CASES, and the line it gives.
 
-use super::packing::unpacked;
 use crate::programs::cases::{self, push_counted, sums, used, written_words, FILL};
 use crate::written::hex;
 use evaluator::book::{Book, Step};
 use evaluator::refusal::Refusal;
 use evaluator::rows::Finding;
-use evaluator::start::GivenMessage;
 use evaluator::txt::{Answer, Status};
 use evaluator::verdict::{Alignment, Verdict};
 
 /// One call.
 #[derive(Clone, Debug, PartialEq, Eq)]
 pub enum Call {
-    Start(StartCall),
+    Open(OpenCall),
+    Add(AddCall),
     Next,
     Answer(AnswerCall),
     Result,
@@ -21,13 +20,20 @@ pub enum Call {
     Finding,
 }
 
-/// A message as it is handed over.
-#[derive(Clone, Debug, Default, PartialEq, Eq)]
-pub struct StartCall {
+/// What an evaluation is opened with.
+#[derive(Clone, Debug, PartialEq, Eq)]
+pub struct OpenCall {
+    pub author: Vec<u8>,
     pub existence: u8,
     pub support: u8,
-    pub author: Vec<u8>,
-    pub packed: Vec<u8>,
+}
+
+/// An identifier as it is added.
+#[derive(Clone, Debug, PartialEq, Eq)]
+pub struct AddCall {
+    pub kind: u8,
+    pub outcome: u8,
+    pub domain: Vec<u8>,
 }
 
 /// An answer for a name, and the size of the lent scratch.
@@ -42,7 +48,8 @@ pub struct AnswerCall {
 impl Call {
     pub fn kind(&self) -> u8 {
         match self {
-            Call::Start(_) => b'S',
+            Call::Open(_) => b'O',
+            Call::Add(_) => b'I',
             Call::Next => b'N',
             Call::Answer(_) => b'A',
             Call::Result => b'R',
@@ -54,7 +61,8 @@ impl Call {
     /// The call as it stands in CASES.
     pub fn octets(&self) -> Option<Vec<u8>> {
         let body = match self {
-            Call::Start(given) => start_body(given)?,
+            Call::Open(given) => [&[given.existence, given.support], &given.author[..]].concat(),
+            Call::Add(given) => [&[given.kind, given.outcome], &given.domain[..]].concat(),
             Call::Answer(given) => answer_body(given)?,
             Call::Field { size } => size.to_be_bytes().to_vec(),
             Call::Next | Call::Result | Call::Finding => Vec::new(),
@@ -65,7 +73,8 @@ impl Call {
     /// Makes the call, and gives the line that must be printed, without its end.
     pub fn line(&self, book: &mut Book) -> String {
         match self {
-            Call::Start(given) => format!("start {}", accepted_words(given.make(book))),
+            Call::Open(given) => format!("open {}", accepted_words(given.make(book))),
+            Call::Add(given) => format!("add {}", accepted_words(given.make(book))),
             Call::Next => format!("next {}", step_words(book.next_step())),
             Call::Answer(given) => {
                 let mut scratch = vec![FILL; usize::from(given.scratch)];
@@ -83,14 +92,32 @@ impl Call {
     }
 }
 
-impl StartCall {
-    fn make(&self, book: &mut Book) -> Result<(), Refusal> {
-        book.start(&GivenMessage {
-            author: &self.author,
-            existence: self.existence,
-            support: self.support,
-            identifiers: unpacked(&self.packed),
-        })
+impl OpenCall {
+    /// An opening with an author that exists, and support.
+    pub fn of(author: &[u8]) -> OpenCall {
+        OpenCall {
+            author: author.to_vec(),
+            existence: 1,
+            support: 1,
+        }
+    }
+
+    pub fn make(&self, book: &mut Book) -> Result<(), Refusal> {
+        book.open(&self.author, self.existence, self.support)
+    }
+}
+
+impl AddCall {
+    pub fn new(kind: u8, outcome: u8, domain: &[u8]) -> AddCall {
+        AddCall {
+            kind,
+            outcome,
+            domain: domain.to_vec(),
+        }
+    }
+
+    pub fn make(&self, book: &mut Book) -> Result<(), Refusal> {
+        book.add(self.kind, self.outcome, &self.domain)
     }
 }
 
@@ -99,13 +126,6 @@ impl AnswerCall {
         let (status, bytes) = (self.status, self.bytes.as_slice());
         book.answer(&self.name, Answer { status, bytes }, scratch)
     }
-}
-
-fn start_body(given: &StartCall) -> Option<Vec<u8>> {
-    let mut body = vec![given.existence, given.support];
-    push_counted(&mut body, &given.author)?;
-    body.extend(&given.packed);
-    Some(body)
 }
 
 fn answer_body(given: &AnswerCall) -> Option<Vec<u8>> {

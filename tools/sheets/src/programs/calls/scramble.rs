@@ -6,7 +6,8 @@ mod seeded;
 pub use seeded::seeded;
 
 use super::accepted::Plan;
-use super::call::{AnswerCall, Call, StartCall};
+use super::call::{AddCall, AnswerCall, Call, OpenCall};
+use super::{adding, refused};
 use crate::generate::domains::dotted;
 use crate::random::Random;
 use evaluator::book::Book;
@@ -40,19 +41,37 @@ const UNREADABLE: [&[u8]; 10] = [
 /// A readable answer.
 const RECORD: &[u8] = b"TX\0\x13\x12v=DMARC1; p=reject";
 
+/// Identifiers that come in between, good and bad.
+const IDENTIFIERS: [(u8, u8, &[u8]); 10] = [
+    (1, 1, b"mail.example.com"),
+    (1, 0, b"other.test."),
+    (0, 1, b"example.com"),
+    (0, 2, b"Mail.Other.test"),
+    (0, 1, b"a..b"),
+    (1, 1, b"."),
+    (1, 2, b""),
+    (2, 1, b"example.com"),
+    (1, 3, b"example.com"),
+    (255, 255, b"a..b"),
+];
+
 /// A call that was made, and its line.
 pub type Made = (Call, String);
 
-/// The calls of these messages, one message after the other, with refused
-/// starts in between.
-pub fn scrambled(plans: &[Plan], refused: Vec<StartCall>) -> Vec<Made> {
-    let mut scrambler = Scrambler::new(Random::of(SEED, 0), refused);
-    scrambler.before_a_start();
+/// The calls of these messages, one message after the other, with refused calls
+/// in between.
+pub fn scrambled(plans: &[Plan]) -> Vec<Made> {
+    let mut scrambler = Scrambler::new(Random::of(SEED, 0));
+    scrambler.before_an_opening();
+    for call in adding::calls() {
+        scrambler.push(call);
+    }
+    scrambler.refused_identifiers();
     scrambler.at_the_limits();
     for plan in plans {
         scrambler.run(plan);
     }
-    while scrambler.refuse_start() {
+    while scrambler.refuse_opening() {
         scrambler.push(Call::Next);
     }
     scrambler.made
@@ -82,8 +101,8 @@ struct Scrambler {
     random: Random,
     book: Book,
     made: Vec<Made>,
-    /// The refused starts that were not made yet.
-    refused: Vec<StartCall>,
+    /// The refused openings that were not made yet.
+    refused: Vec<OpenCall>,
     /// The name that was answered last.
     last: Vec<u8>,
     /// Names that were asked once, of this message and of others.
@@ -93,12 +112,12 @@ struct Scrambler {
 }
 
 impl Scrambler {
-    fn new(random: Random, refused: Vec<StartCall>) -> Scrambler {
+    fn new(random: Random) -> Scrambler {
         Scrambler {
             random,
             book: Book::default(),
             made: Vec::new(),
-            refused,
+            refused: refused::openings(),
             last: b"_dmarc.example.com".to_vec(),
             old_names: Vec::new(),
             often: OFTEN,
@@ -120,19 +139,33 @@ impl Scrambler {
         }));
     }
 
-    /// Makes a refused start, if there is one left.
-    fn refuse_start(&mut self) -> bool {
+    /// Makes a refused opening, if there is one left.
+    fn refuse_opening(&mut self) -> bool {
         let at = self.random.below(self.refused.len());
         if at >= self.refused.len() {
             return false;
         }
         let call = self.refused.swap_remove(at);
-        self.push(Call::Start(call));
+        self.push(Call::Open(call));
         true
     }
 
-    /// Calls where nothing was started, and where a start was refused.
-    fn before_a_start(&mut self) {
+    /// An identifier that comes in between.
+    fn identifier(&mut self) -> AddCall {
+        let (kind, outcome, domain) = self.random.pick(&IDENTIFIERS);
+        AddCall::new(kind, outcome, domain)
+    }
+
+    /// Adds an identifier, if it is refused.
+    fn refuse_identifier(&mut self) {
+        let given = self.identifier();
+        if given.make(&mut self.book.clone()).is_err() {
+            self.push(Call::Add(given));
+        }
+    }
+
+    /// Calls where nothing was opened, and where an opening was refused.
+    fn before_an_opening(&mut self) {
         for _ in 0..2 {
             self.push(Call::Next);
             self.push(Call::Result);
@@ -141,20 +174,31 @@ impl Scrambler {
             self.push(Call::Finding);
             self.push_answer(b"_dmarc.example.com", Status::Records, RECORD, 4096);
             self.push_answer(b"", Status::Error, b"", 0);
-            self.refuse_start();
+            for (kind, outcome, domain) in IDENTIFIERS {
+                self.push(Call::Add(AddCall::new(kind, outcome, domain)));
+            }
+            self.refuse_opening();
         }
         self.push(Call::Next);
+    }
+
+    /// Messages with an identifier that is refused, and then too late.
+    fn refused_identifiers(&mut self) {
+        for (accepted, given) in refused::identifiers() {
+            self.push(Call::Open(OpenCall::of(b"other.test")));
+            for given in accepted {
+                self.push(Call::Add(given));
+            }
+            self.push(Call::Add(given.clone()));
+            self.push(Call::Next);
+            self.push(Call::Add(given));
+        }
     }
 
     /// Answers at the limits of one answer, and just over them.
     fn at_the_limits(&mut self) {
         let name = b"_dmarc.example.com";
-        self.push(Call::Start(StartCall {
-            existence: 1,
-            support: 1,
-            author: b"example.com".to_vec(),
-            packed: Vec::new(),
-        }));
+        self.push(Call::Open(OpenCall::of(b"example.com")));
         self.push(Call::Next);
         let most = txt::MOST_ANSWER_OCTETS;
         self.push_answer(name, Status::Records, &full_answer(most + 1), 65_535);
@@ -166,16 +210,25 @@ impl Scrambler {
         self.push(Call::Finding);
     }
 
-    /// One message from its start to after its verdict.
+    /// The opening of a message and its identifiers, with calls in between.
+    fn open(&mut self, plan: &Plan) {
+        self.push(Call::Open(plan.open.clone()));
+        for given in &plan.adds {
+            self.disturb_adding();
+            self.push(Call::Add(given.clone()));
+        }
+    }
+
+    /// One message from its opening to after its verdict.
     fn run(&mut self, plan: &Plan) {
-        self.push(Call::Start(plan.start.clone()));
+        self.open(plan);
         let restart_at = self.random.percent(12).then(|| self.random.between(1, 4));
         let mut answered = 0;
         while self.book.result().is_err() {
             self.disturb();
             if Some(answered) == restart_at {
                 answered += 1;
-                self.push(Call::Start(plan.start.clone()));
+                self.open(plan);
             }
             match self.book.now_asked().map(<[u8]>::to_vec) {
                 None => self.push(Call::Next),
@@ -201,19 +254,37 @@ impl Scrambler {
     fn disturb(&mut self) {
         let rate = self.rate();
         while self.random.percent(rate) {
-            match self.random.below(9) {
-                0 => self.push(Call::Result),
-                8 => self.push(Call::Finding),
-                1 | 2 => {
-                    let size = self.random.pick(&FIELD_SIZES);
-                    self.push(Call::Field { size });
-                }
-                3 | 4 => self.push(Call::Next),
-                5 => {
-                    self.refuse_start();
-                }
-                _ => self.answer_wrongly(),
+            match self.random.below(5) {
+                0 => self.push(Call::Next),
+                _ => self.change_nothing(),
             }
+        }
+    }
+
+    /// Calls that change nothing, between two identifiers.
+    fn disturb_adding(&mut self) {
+        let rate = self.rate() * 2 / 3;
+        while self.random.percent(rate) {
+            match self.random.percent(30) {
+                true => self.refuse_identifier(),
+                false => self.change_nothing(),
+            }
+        }
+    }
+
+    fn change_nothing(&mut self) {
+        match self.random.below(8) {
+            0 => self.push(Call::Result),
+            1 => self.push(Call::Finding),
+            2 | 3 => {
+                let size = self.random.pick(&FIELD_SIZES);
+                self.push(Call::Field { size });
+            }
+            4 => {
+                self.refuse_opening();
+            }
+            5 => self.refuse_identifier(),
+            _ => self.answer_wrongly(),
         }
     }
 
@@ -307,7 +378,7 @@ impl Scrambler {
     }
 
     /// The verdict by both calls and what would be entered of it, each more than
-    /// once, and fields of several sizes.
+    /// once, fields of several sizes, and an identifier that is too late.
     fn after_the_verdict(&mut self) {
         let twice = [Call::Next, Call::Result, Call::Finding];
         let mut calls = [twice.clone(), twice].concat();
@@ -321,11 +392,12 @@ impl Scrambler {
             name: self.last.clone(),
             bytes: Vec::new(),
         }));
+        calls.push(Call::Add(self.identifier()));
         self.random.shuffle(&mut calls);
         for call in calls {
             self.push(call);
             if self.random.percent(8) {
-                self.refuse_start();
+                self.refuse_opening();
             }
         }
     }

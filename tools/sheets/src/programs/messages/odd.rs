@@ -76,7 +76,7 @@ pub fn sheets() -> Vec<(&'static str, Vec<u8>)> {
         marks_and_order(),
         second_answers(),
         numbers(),
-        starts(),
+        messages(),
         answers(),
         unanswered(),
         repeated_tags(),
@@ -222,7 +222,7 @@ fn numbers() -> Table {
 }
 
 /// Reading 110.
-fn starts() -> Table {
+fn messages() -> Table {
     let own = || author(b"example.com");
     let two_spf = own().dkim(1, b"a").id(0, 0, b"a").id(0, 1, b"a..b");
     vec![

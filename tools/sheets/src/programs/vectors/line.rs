@@ -10,7 +10,6 @@ use evaluator::domain::label_pass;
 use evaluator::policy::{self, Mode, Psd, Request, Settings};
 use evaluator::refusal::Refusal;
 use evaluator::report::{self, FileName};
-use evaluator::start::{GivenIdentifier, GivenMessage};
 use evaluator::txt::{self, Answer, Reply};
 
 /// How many octets of the scratch a line shows.
@@ -87,30 +86,24 @@ fn labels_line(domain: &[u8]) -> String {
 
 /// The field of a message with these identifiers, asked for at its verdict.
 fn field(given: &FieldCase, out: &mut [u8]) -> Result<usize, Refusal> {
-    let of_kind = |kind: u8, method: Method| {
-        method.given.then_some(GivenIdentifier {
-            kind,
-            // A pass of the author's own domain is aligned, no pass is not.
-            outcome: u8::from(method.aligned),
-            domain: AUTHOR,
-        })
-    };
+    // A pass of the author's own domain is aligned, no pass is not.
+    let of_kind =
+        |kind: u8, method: Method| method.given.then_some((kind, u8::from(method.aligned)));
     let both = [of_kind(1, given.dkim), of_kind(0, given.spf)];
-    let identifiers: Vec<GivenIdentifier> = both.into_iter().flatten().collect();
-    let mut book = asking(&identifiers)?;
+    let methods: Vec<(u8, u8)> = both.into_iter().flatten().collect();
+    let mut book = asking(&methods)?;
     book.answer(ASKED, Answer::records(OWN_RECORD), &mut [0; 4096])?;
     book.field(out)
 }
 
-/// A book that now asks `_dmarc.example.com`.
-fn asking(identifiers: &[GivenIdentifier]) -> Result<Book, Refusal> {
+/// A book that now asks `_dmarc.example.com`, with identifiers of the author's
+/// own domain, of these kinds and outcomes.
+fn asking(identifiers: &[(u8, u8)]) -> Result<Book, Refusal> {
     let mut book = Book::default();
-    book.start(&GivenMessage {
-        author: AUTHOR,
-        existence: 1,
-        support: 1,
-        identifiers: identifiers.to_vec(),
-    })?;
+    book.open(AUTHOR, 1, 1)?;
+    for (kind, outcome) in identifiers {
+        book.add(*kind, *outcome, AUTHOR)?;
+    }
     book.next_step()?;
     Ok(book)
 }

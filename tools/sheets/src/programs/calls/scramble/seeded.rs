@@ -1,7 +1,7 @@
 //! Random messages of a seed, and a random order of their calls.
 
 use super::super::accepted::Plan;
-use super::super::call::{Call, StartCall};
+use super::super::call::{Call, OpenCall};
 use super::super::refused;
 use super::{Made, Scrambler};
 use crate::generate::domains::{dotted, recased};
@@ -13,16 +13,14 @@ use evaluator::txt::Status;
 /// Sets the choices of a seed apart from those of the sheets.
 const MESSAGES: u64 = 0x6d65_7373_6167_6573;
 const ORDER: u64 = 0x6f72_6465_7221_2121;
-/// The longest author after a length octet.
-const MOST_AUTHOR_OCTETS: usize = 255;
 /// As many old names are kept.
 const OLD_NAMES: usize = 40;
 
 /// The calls of so many messages, one message after the other, or nothing if a
 /// message cannot be written.
 pub fn seeded(count: u64, seed: u64) -> Option<Vec<Made>> {
-    let mut scrambler = Scrambler::new(Random::of(seed ^ ORDER, 0), refused::messages());
-    scrambler.before_a_start();
+    let mut scrambler = Scrambler::new(Random::of(seed ^ ORDER, 0));
+    scrambler.before_an_opening();
     for index in 0..count {
         scrambler.refusable(seed, index);
         scrambler.message(&plan(seed, index)?);
@@ -42,33 +40,31 @@ fn plan(seed: u64, index: u64) -> Option<Plan> {
     Some(plan)
 }
 
-/// The message of a hostile sheet, if it can be read and written as calls.
+/// The message of a hostile sheet, if that can be read.
 fn hostile(seed: u64, index: u64) -> Option<Plan> {
-    let plan = Plan::of_sheet(&generate::hostile(seed, index))?;
-    (plan.start.author.len() <= MOST_AUTHOR_OCTETS).then_some(plan)
+    Plan::of_sheet(&generate::hostile(seed, index))
 }
 
-/// The start of a hostile sheet, if it is refused.
-fn refused_start(seed: u64, index: u64) -> Option<StartCall> {
-    let start = hostile(seed ^ MESSAGES, index)?.start;
-    let refused = Call::Start(start.clone()).line(&mut Book::default()) != "start accepted";
-    refused.then_some(start)
+/// The opening of a hostile sheet, if it is refused.
+fn refused_opening(seed: u64, index: u64) -> Option<OpenCall> {
+    let open = hostile(seed ^ MESSAGES, index)?.open;
+    open.make(&mut Book::default()).is_err().then_some(open)
 }
 
 impl Scrambler {
-    /// Sees to it that there are starts that are refused.
+    /// Sees to it that there are openings that are refused.
     fn refusable(&mut self, seed: u64, index: u64) {
         if self.refused.is_empty() {
-            self.refused = refused::messages();
+            self.refused = refused::openings();
         }
-        self.refused.extend(refused_start(seed, index));
+        self.refused.extend(refused_opening(seed, index));
     }
 
-    /// One message from its start to after its verdict, or as far as it comes
-    /// before it is left. Where its start is refused the last one goes on.
+    /// One message from its opening to after its verdict, or as far as it comes
+    /// before it is left. Where its opening is refused the last one goes on.
     fn message(&mut self, plan: &Plan) {
         self.often = self.random.pick(&[0, 15, 30, 45, 60]);
-        self.start_over(plan);
+        self.open_over(plan);
         self.disturb();
         let left = self.random.percent(15);
         let mut steps = match left {
@@ -80,7 +76,7 @@ impl Scrambler {
             self.disturb();
             steps -= 1;
             if again > 0 && self.random.percent(20) {
-                self.start_over(plan);
+                self.open_over(plan);
                 again -= 1;
             }
         }
@@ -90,12 +86,35 @@ impl Scrambler {
         }
     }
 
-    /// A start, and at times an answer for the name that was asked before it.
-    fn start_over(&mut self, plan: &Plan) {
+    /// An opening, at times an answer for the name that was asked before it, and
+    /// the identifiers.
+    fn open_over(&mut self, plan: &Plan) {
         let before = self.book.now_asked().map(<[u8]>::to_vec);
-        self.push(Call::Start(plan.start.clone()));
+        self.push(Call::Open(plan.open.clone()));
         if let Some(name) = before.filter(|_| self.random.percent(30)) {
             self.push_answer(&name, plan.missing, b"", 4096);
+        }
+        self.add_identifiers(plan);
+    }
+
+    /// The identifiers in turn: at times others among them, a next step before
+    /// some of them, or an opening after which only the rest come.
+    fn add_identifiers(&mut self, plan: &Plan) {
+        let rate = self.rate() / 4;
+        let cut = self.random.percent(15);
+        let cut = cut.then(|| self.random.below(plan.adds.len()));
+        for (index, given) in plan.adds.iter().enumerate() {
+            self.disturb_adding();
+            if self.random.percent(rate) {
+                let other = self.identifier();
+                self.push(Call::Add(other));
+            }
+            if cut == Some(index) {
+                let over = self.random.percent(40);
+                let open = || Call::Open(plan.open.clone());
+                self.push(if over { open() } else { Call::Next });
+            }
+            self.push(Call::Add(given.clone()));
         }
     }
 
