@@ -16,6 +16,7 @@ pub struct Starts {
 }
 
 // A target of a walk: where it begins, and where it begins with one more label.
+#[repr(C)]
 pub struct Target {
     pub begin: Octet,
     pub wider: Octet,

@@ -15,7 +15,7 @@ use verdict::Existence;
 use verdict_judgement::Terms;
 
 // The existence that a number says.
-fn read_existence(n: u8) -> Existence
+pub fn read_existence(n: u8) -> Existence
     ensures { λ r. ⌜ r ≡ existence-in n ⌝ }
 {
     match n {

@@ -5,7 +5,8 @@ ghost use Rattle.octets.specs.Octets.{lower};
 ghost use Rattle.octets.specs.Lent.{Writes};
 ghost use Rattle.octets.specs.Refusing.{refusal};
 ghost use Rattle.alignment_stored.specs.code.Stored.{slot};
-ghost use Rattle.evaluation.specs.code.View.{blank, marked};
+ghost use Rattle.domain.specs.Domain.{asked-name};
+ghost use Rattle.evaluation.specs.code.View.{blank};
 use domain::Labels;
 use domain::Octet;
 use domain_labels::Target;
@@ -78,18 +79,30 @@ pub fn refused(e: Evaluation, number: u8, place: usize) -> Changed
     }
 }
 
-// The name that a walk and a place mark, into the front of lent memory.
-pub fn write_name(e: Evaluation, walk: usize, place: Octet, out: &mut [u8]) -> Written
-    ensures { λ r. ⌜ Writes (marked e walk place) (now (out .entry)) r (now (out .exit)) ⌝ }
+// The name that a walk and a place mark among stored domains, into the front of lent memory.
+pub fn write_name<'a>(
+    domains: &'a [u8],
+    numbers: &'a [u16],
+    walk: usize,
+    place: Octet,
+    out: &mut [u8],
+) -> Written
+    ensures { λ r. ⌜ Writes (asked-name (drop (place .0) (slot (now (domains .entry)) (now (numbers .entry)) walk))) (now (out .entry)) r (now (out .exit)) ⌝ }
 {
-    let d = alignment_stored::slot(&e.domains, &e.numbers, walk);
+    let d = alignment_stored::slot(domains, numbers, walk);
     domain_names::write_name(d, place, out)
 }
 
-// The domain that a walk and a place mark, into the front of lent memory.
-pub fn write_domain(e: Evaluation, walk: usize, place: Octet, out: &mut [u8]) -> Written
-    ensures { λ r. ⌜ Writes (lower (drop (place .0) (slot (e .domains) (e .numbers) walk))) (now (out .entry)) r (now (out .exit)) ⌝ }
+// The domain that a walk and a place mark among stored domains, into the front of lent memory.
+pub fn write_domain<'a>(
+    domains: &'a [u8],
+    numbers: &'a [u16],
+    walk: usize,
+    place: Octet,
+    out: &mut [u8],
+) -> Written
+    ensures { λ r. ⌜ Writes (lower (drop (place .0) (slot (now (domains .entry)) (now (numbers .entry)) walk))) (now (out .entry)) r (now (out .exit)) ⌝ }
 {
-    let whole = alignment_stored::slot(&e.domains, &e.numbers, walk);
+    let whole = alignment_stored::slot(domains, numbers, walk);
     octets_write::write_lower(text_parts::part(whole, place.0, whole.len()), out)
 }

@@ -4,8 +4,6 @@ use mathlib.Core.List.{[], _∷_}
 use mathlib.Core.Bool.{Bool, true, false}
 use Prim.Native.Nat.{ℕ}
 use lib.ListN.{getD}
-use Rattle.octets.specs.Refusing.{refusal}
-use Rattle.octets.specs.declared.Written.{Written}
 use Rattle.policy.specs.declared.Policy.{Policy}
 use Rattle.policy.specs.declared.Setting.{Setting}
 use Rattle.policy.specs.declared.Mode.{Mode}
@@ -14,7 +12,6 @@ use Rattle.policy.specs.declared.Settings.{Settings}
 use Rattle.policy.specs.declared.Reading.{Reading}
 use Rattle.policy.specs.declared.Bounds.{Bounds}
 use Rattle.publishing.specs.declared.RecordNumbers.{RecordNumbers}
-use Rattle.publishing.specs.declared.RecordWritten.{RecordWritten}
 use Rattle.publishing.specs.declared.RecordRead.{RecordRead}
 use Rattle.publishing.specs.Claims.{beside}
 
@@ -80,10 +77,6 @@ numbers-of s = record {
 }
 
 -- ------------------------------------------------------------------ answers
-
-unfoldable pub written-numbers : Written → RecordWritten
-written-numbers (Written.Wrote n) = record { refusal = refusal 0 0; length = n }
-written-numbers (Written.Refused r) = record { refusal = r; length = 0 }
 
 -- all 0 where a text is no policy record
 unfoldable pub read-numbers : Reading → Bounds → RecordRead

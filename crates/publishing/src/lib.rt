@@ -1,6 +1,4 @@
 // A policy record written from its settings, and what programs in other languages hand over and get.
-use octets::Refusal;
-
 // Settings by numbers. p, sp and np: none 0, quarantine 1, reject 2, absent 3; adkim and aspf: r 0, s 1; psd: u 0, y 1, n 2; t: n 0, y 1.
 #[repr(C)]
 pub struct RecordNumbers {
@@ -11,13 +9,6 @@ pub struct RecordNumbers {
     pub aspf: u8,
     pub psd: u8,
     pub t: u8,
-}
-
-// What writing gave: the octets written, or a refusal; refusal 0 is none.
-#[repr(C)]
-pub struct RecordWritten {
-    pub refusal: Refusal,
-    pub length: usize,
 }
 
 // What reading gave: whether the text is a policy record, its settings, whether rua has a valid entry, and where the rua text stands.

@@ -1,8 +1,6 @@
 // Settings and answers by numbers, as programs in other languages hand them over and get them.
 ghost use mathlib.Core.Path.{_≡_};
-ghost use Rattle.publishing.specs.Numbers.{setting-in, mode-in, psd-in, testing-in, settings-in, setting-number, mode-number, psd-number, testing-number, numbers-of, written-numbers, read-numbers};
-use octets::Refusal;
-use octets::Written;
+ghost use Rattle.publishing.specs.Numbers.{setting-in, mode-in, psd-in, testing-in, settings-in, setting-number, mode-number, psd-number, testing-number, numbers-of, read-numbers};
 use policy::Bounds;
 use policy::Mode;
 use policy::Policy;
@@ -12,7 +10,6 @@ use policy::Setting;
 use policy::Settings;
 use publishing::RecordNumbers;
 use publishing::RecordRead;
-use publishing::RecordWritten;
 
 // What the numbers stand for, and last what any other number does.
 const SETTINGS: [Setting; 5] = [
@@ -141,22 +138,6 @@ fn numbers_of(s: Settings) -> RecordNumbers
         aspf: mode_number(aspf),
         psd: psd_number(psd),
         t: testing_number(s.t),
-    }
-}
-
-// What writing gave.
-pub fn written_numbers(w: Written) -> RecordWritten
-    ensures { λ r. ⌜ r ≡ written-numbers w ⌝ }
-{
-    match w {
-        Written::Wrote(length) => RecordWritten {
-            refusal: Refusal {
-                number: 0,
-                place: 0,
-            },
-            length,
-        },
-        Written::Refused(refusal) => RecordWritten { refusal, length: 0 },
     }
 }
 

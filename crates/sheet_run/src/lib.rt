@@ -2,7 +2,7 @@
 ghost use mathlib.Core.Path.{_≡_};
 ghost use Prim.Native.Nat.{_≤_};
 ghost use lib.ListN.{length, take};
-ghost use Rattle.octets.specs.Lent.{Writes};
+ghost use Rattle.octets.specs.Lent.{Writes, left};
 ghost use Rattle.sheet.specs.Printed.{printed};
 ghost use Rattle.sheet_turn.specs.code.Conversing.{Converses};
 ghost use Rattle.sheet_run.specs.code.Beginning.{Begins};
@@ -80,4 +80,16 @@ pub fn run(sheet: &[u8], out: &mut [u8]) -> Written
     let mut lines = [0u8; 36864];
     let end = compose(sheet, &mut lines);
     octets_write::write(text_parts::part(&lines, 0, end), out)
+}
+
+// For programs in other languages: how long the text is that is printed for a sheet. It is written into the front of lent
+// memory where there is room.
+#[no_mangle]
+pub extern "C" fn waslidhaj_run(sheet: &[u8], out: &mut [u8]) -> usize
+    ensures { λ r. ⌜ (r ≡ length (printed (now (sheet .entry)))) × (now (out .exit) ≡ left (printed (now (sheet .entry))) (now (out .entry))) ⌝ }
+{
+    match run(sheet, out) {
+        Written::Wrote(n) => n,
+        Written::Refused(f) => f.place,
+    }
 }

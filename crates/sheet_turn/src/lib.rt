@@ -22,7 +22,7 @@ fn name_at(e: Evaluation, walk: usize, place: Octet, name: &mut [u8]) -> usize
     requires { ⌜ length (now name) ≡ 260 ⌝ }
     ensures { λ r. ⌜ (take r (now (name .exit)) ≡ marked e walk place) × (r ≡ length (marked e walk place)) × (r ≤ 260) ⌝ }
 {
-    match evaluation_state::write_name(e, walk, place, name) {
+    match evaluation_state::write_name(&e.domains, &e.numbers, walk, place, name) {
         Written::Wrote(n) => n,
         Written::Refused(_) => 0,
     }

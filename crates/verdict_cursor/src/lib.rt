@@ -47,6 +47,7 @@ pub enum PlaceKind {
 }
 
 // An applied record as it is kept, its settings and policy as numbers.
+#[repr(C)]
 pub struct KeptRuling {
     pub begin: Octet,
     pub settings: usize,

@@ -1,12 +1,12 @@
 // For programs in other languages: a policy record is written, and a text read as one.
 ghost use mathlib.Core.Path.{_≡_};
-ghost use Rattle.octets.specs.Lent.{written-if, left-if};
+ghost use Rattle.octets.specs.Lent.{written-if, left-if, written-numbers};
 ghost use Rattle.policy.specs.Records.{read-policy, rua-bounds};
 ghost use Rattle.publishing.specs.Publishing.{written-record};
-ghost use Rattle.publishing.specs.Numbers.{settings-in, written-numbers, read-numbers};
+ghost use Rattle.publishing.specs.Numbers.{settings-in, read-numbers};
+use octets::WrittenNumbers;
 use publishing::RecordNumbers;
 use publishing::RecordRead;
-use publishing::RecordWritten;
 
 // A record from settings by numbers and a rua text, into the front of lent memory.
 #[no_mangle]
@@ -14,11 +14,11 @@ pub extern "C" fn waslidhaj_write_record(
     numbers: RecordNumbers,
     rua: &[u8],
     out: &mut [u8],
-) -> RecordWritten
+) -> WrittenNumbers
     ensures { λ r. ⌜ (r ≡ written-numbers (written-if (written-record (settings-in numbers) (now (rua .entry))) (now (out .entry)))) × (now (out .exit) ≡ left-if (written-record (settings-in numbers) (now (rua .entry))) (now (out .entry))) ⌝ }
 {
     let settings = publishing_numbers::settings_in(numbers);
-    publishing_numbers::written_numbers(publishing_write::write_record(settings, rua, out))
+    octets_write::number_written(publishing_write::write_record(settings, rua, out))
 }
 
 // What a text is, its settings by numbers, and where its rua text stands.

@@ -1,18 +1,20 @@
-//! Compares the proved evaluator with the second one, sheet by sheet, the proved
-//! daily rows with the second evaluator's, history by history, and the proved
-//! writer and reader of policy records, record by record.
+//! Compares the proved evaluator with the second one, sheet by sheet and call by
+//! call, the proved daily rows with the second evaluator's, history by history,
+//! and the proved writer and reader of policy records, record by record.
 
-#![deny(unsafe_code)]
+#![forbid(unsafe_code)]
 
 mod agreement;
+mod calls;
 mod cases;
 mod histories;
 mod program;
-#[allow(unsafe_code)]
-mod proved;
 mod publishing;
 mod refused;
+mod states;
 mod time;
+mod timing;
+mod vectors;
 #[cfg(test)]
 mod wrongs;
 
@@ -21,7 +23,6 @@ use std::process::ExitCode;
 use agreement::{same, Checker};
 use cases::Case;
 use evaluator::sheet;
-use histories::Proved;
 use sheets::command;
 use sheets::generate::SheetKind;
 use sheets::tally::Tally;
@@ -29,17 +30,25 @@ use sheets::tally::Tally;
 const USAGE: &str = "usage:
   compare sheets ORDINARY HOSTILE SEED
   compare program PATH COUNT SEED
+  compare calls COUNT SEED
+  compare states COUNT SEED
+  compare vectors
   compare histories COUNT SEED
   compare records COUNT SEED
-  compare time COUNT SEED";
+  compare time COUNT SEED
+  compare timing COUNT";
 
 fn main() -> ExitCode {
     command::run(|words| match words {
         ["sheets", ordinary, hostile, seed] => compare_sheets([ordinary, hostile, seed]),
         ["program", path, count, seed] => compare_program(path, [count, seed]),
+        ["calls", count, seed] => compare_calls([count, seed]),
+        ["states", count, seed] => compare_states([count, seed]),
+        ["vectors"] => compare_vectors(),
         ["histories", count, seed] => compare_histories([count, seed]),
         ["records", count, seed] => compare_records([count, seed]),
         ["time", count, seed] => print_times([count, seed]),
+        ["timing", count] => print_timing([count]),
         _ => Err(USAGE.to_string()),
     })
 }
@@ -88,7 +97,7 @@ fn compare_sheets(words: [&str; 3]) -> Result<(), String> {
         hostile,
         seed,
     };
-    let mut checker = Checker::new(proved::run);
+    let mut checker = Checker::new(waslidhaj::calls::run);
     for case in all_cases(&asked)? {
         let checked = checker.check(&case.sheet);
         checked.map_err(|fault| fault.report(&case.origin, &case.sheet))?;
@@ -117,10 +126,36 @@ fn compare_program(path: &str, words: [&str; 2]) -> Result<(), String> {
     Ok(())
 }
 
+/// Lists of calls by both, in this process.
+fn compare_calls(words: [&str; 2]) -> Result<(), String> {
+    let [count, seed] = numbers(words)?;
+    println!(
+        "{}",
+        calls::compare(&calls::Proved::default(), count, seed)?
+    );
+    Ok(())
+}
+
+/// Calls on states that no call gave, in this process.
+fn compare_states(words: [&str; 2]) -> Result<(), String> {
+    let [count, seed] = numbers(words)?;
+    let line = states::compare(&states::Proved, calls::Proved::from, count, seed)?;
+    println!("{line}");
+    Ok(())
+}
+
+/// Single cases by both, in this process.
+fn compare_vectors() -> Result<(), String> {
+    let (calls, records) = (calls::Proved::default(), records::code::Proved);
+    let line = vectors::compare(&calls, &records, vectors::proved_name)?;
+    println!("{line}");
+    Ok(())
+}
+
 /// The daily rows of both, in this process.
 fn compare_histories(words: [&str; 2]) -> Result<(), String> {
     let [count, seed] = numbers(words)?;
-    println!("{}", histories::compare(&Proved, count, seed)?);
+    println!("{}", histories::compare(&histories::Proved, count, seed)?);
     Ok(())
 }
 
@@ -138,4 +173,10 @@ fn print_times(words: [&str; 2]) -> Result<(), String> {
     let [count, seed] = numbers(words)?;
     time::print(count, seed);
     Ok(())
+}
+
+/// The time of the proved calls on single messages.
+fn print_timing(words: [&str; 1]) -> Result<(), String> {
+    let [count] = numbers(words)?;
+    timing::print(count)
 }

@@ -8,7 +8,7 @@ mod odd;
 mod rua;
 mod tally;
 #[cfg(test)]
-mod tests;
+pub mod tests;
 
 use check::{check_text, check_writing};
 use records::code::Code;

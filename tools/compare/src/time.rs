@@ -5,9 +5,9 @@ use std::hint::black_box;
 use std::time::{Duration, Instant};
 
 use crate::agreement::LENT_OCTETS;
-use crate::proved;
 use evaluator::sheet;
 use sheets::generate::ordinary;
+use waslidhaj::calls;
 
 const ROUNDS: usize = 7;
 /// "its last 7 if x is over 8": a walk skips labels of a domain of more.
@@ -61,7 +61,7 @@ fn least_times(sheets: &[Vec<u8>]) -> (Duration, Duration) {
     let (mut proved, mut reference) = (Duration::MAX, Duration::MAX);
     for _ in 0..ROUNDS {
         proved = proved.min(time(sheets, |sheet| {
-            black_box(proved::run(black_box(sheet), &mut out));
+            black_box(calls::run(black_box(sheet), &mut out));
         }));
         reference = reference.min(time(sheets, |sheet| {
             black_box(sheet::run(black_box(sheet)));

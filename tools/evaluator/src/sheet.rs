@@ -2,7 +2,7 @@
 
 use std::collections::HashMap;
 
-use crate::domain::{fault, without_dot, Domain};
+use crate::domain::{fault, without_dot};
 use crate::evaluate::{evaluate, Progress};
 use crate::grounds::Grounds;
 use crate::message::Message;
@@ -179,24 +179,22 @@ impl<'a> Sheet<'a> {
         earlier.is_none().then_some(())
     }
 
+    /// What stands on the sheet for a name in lower case without a final dot.
+    pub fn given(&self, name: &[u8]) -> Option<&GivenAnswer<'a>> {
+        self.by_name.get(name).and_then(|at| self.answers.get(*at))
+    }
+
     /// The answer to an asked name; nothing if it is over a limit or unreadable.
     /// "An asked name that has no `AN` is an error."
     fn answer(&self, name: &[u8]) -> Option<Answer<'a>> {
-        let given = self.by_name.get(name).and_then(|at| self.answers.get(*at));
+        let given = self.given(name);
         let answer = given.map_or(Answer::ERROR, |given| given.answer);
         txt::acceptable(answer).then_some(answer)
     }
 
-    /// The texts under an asked name that have a tag twice, and would be policy
-    /// records without that.
-    pub fn repeating_texts(&self, name: &[u8]) -> Vec<Vec<u8>> {
-        self.answer(name).map_or(Vec::new(), txt::repeating_texts)
-    }
-
-    /// The text of the policy record at a domain, if it has one.
-    pub fn record_text(&self, domain: &Domain) -> Option<Vec<u8>> {
-        let answer = self.answer(&domain.asked_name()?)?;
-        txt::record_text(answer)
+    /// The texts under an asked name, in record order.
+    pub fn texts(&self, name: &[u8]) -> Vec<Vec<u8>> {
+        self.answer(name).map_or(Vec::new(), txt::given_texts)
     }
 }
 
@@ -221,6 +219,16 @@ pub struct Reasoned {
 pub fn verdict(octets: &[u8]) -> Result<(Vec<AskedName>, Verdict), Refusal> {
     let reasoned = reasoned(octets)?;
     Ok((reasoned.names, reasoned.verdict))
+}
+
+/// The asked name whose answer gets the sheet refusal 6, if one does.
+pub fn refused_answer(octets: &[u8]) -> Option<AskedName> {
+    let sheet = read(octets).ok()?;
+    let message = sheet.message.accepted().ok()?;
+    match evaluate(&message, |name| sheet.answer(name)).progress {
+        Progress::Ask(asked) => Some(asked),
+        Progress::Verdict(_) => None,
+    }
 }
 
 /// "The first 8 is given before any other refusal; then 1 to 4; then 6, when

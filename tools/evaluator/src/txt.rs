@@ -112,34 +112,21 @@ pub fn reply(answer: Answer) -> Reply {
         // Only acceptable answers are walked over; one that is not would be an
         // error here, never an empty one.
         Status::Records => texts(answer.bytes).map_or(Reply::Error, |texts| {
-            let single = single(texts);
-            single.map_or(Reply::NoRecord, |(_, settings)| Reply::Record(settings))
+            single(texts).map_or(Reply::NoRecord, Reply::Record)
         }),
     }
 }
 
-/// The texts of an answer of status records.
-fn given_texts(answer: Answer) -> Option<Vec<Vec<u8>>> {
-    texts(answer.bytes).filter(|_| answer.status == Status::Records)
-}
-
-/// The text of the record at a name, if it has one.
-pub fn record_text(answer: Answer) -> Option<Vec<u8>> {
-    single(given_texts(answer)?).map(|(text, _)| text)
-}
-
-/// The texts at a name that would be policy records if they had not a tag twice.
-pub fn repeating_texts(answer: Answer) -> Vec<Vec<u8>> {
-    let mut texts = given_texts(answer).unwrap_or_default();
-    texts.retain(|text| policy::repeated_name(text).is_some());
-    texts
+/// The texts of an answer: none where it has no records, or cannot be accepted.
+pub fn given_texts(answer: Answer) -> Vec<Vec<u8>> {
+    let texts = texts(answer.bytes).filter(|_| answer.status == Status::Records);
+    texts.unwrap_or_default()
 }
 
 /// "texts that are no policy record are dropped. If two or more remain, all are
 /// dropped. A single remaining text is the name's record."
-fn single(texts: Vec<Vec<u8>>) -> Option<(Vec<u8>, Settings)> {
-    let policy = |text: Vec<u8>| policy::read(&text).map(|settings| (text, settings));
-    let mut policies = texts.into_iter().filter_map(policy);
+fn single(texts: Vec<Vec<u8>>) -> Option<Settings> {
+    let mut policies = texts.iter().filter_map(|text| policy::read(text));
     let first = policies.next();
     first.filter(|_| policies.next().is_none())
 }

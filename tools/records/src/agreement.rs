@@ -1,7 +1,6 @@
 //! The code and the second evaluator on one record.
 
-use crate::code::{accepted, numbers, settings, Code};
-use crate::proved::{RecordNumbers, RecordRead};
+use crate::code::{accepted, numbers, settings, Code, RecordNumbers, RecordRead};
 use evaluator::policy::{self, Settings};
 use evaluator::publishing::{write_record, MOST_RUA_OCTETS};
 use evaluator::refusal::Refusal;
@@ -80,7 +79,7 @@ fn expected_numbers(text: &[u8], settings: Option<Settings>) -> RecordRead {
     let (rua_begin, rua_length) = policy::rua_part(text);
     RecordRead {
         is_record: true,
-        numbers: numbers(&settings),
+        settings: numbers(&settings),
         reports: settings.rua_valid,
         rua_begin,
         rua_length,
@@ -102,7 +101,7 @@ fn listed(read: &RecordRead) -> String {
     match read.is_record {
         true => format!(
             "{}, reports={}, rua at {} of {} octets",
-            numbers_words(read.numbers),
+            numbers_words(read.settings),
             read.reports,
             read.rua_begin,
             read.rua_length

@@ -1,13 +1,15 @@
 //! The code that is held to the second evaluator, and its values in the second
 //! evaluator's.
 
-use crate::proved::{self, RecordNumbers, RecordRead, RecordWritten};
 use evaluator::policy::{Mode, Policy, Psd, Request, Settings};
 use evaluator::refusal::Refusal;
+use waslidhaj::{calls, raw};
+
+pub use waslidhaj::raw::{RecordRead, Settings as RecordNumbers, Written};
 
 /// A writer and a reader of policy records.
 pub trait Code {
-    fn write(&self, numbers: RecordNumbers, rua: &[u8], out: &mut [u8]) -> RecordWritten;
+    fn write(&self, numbers: RecordNumbers, rua: &[u8], out: &mut [u8]) -> Written;
     fn read(&self, text: &[u8]) -> RecordRead;
 }
 
@@ -15,17 +17,17 @@ pub trait Code {
 pub struct Proved;
 
 impl Code for Proved {
-    fn write(&self, numbers: RecordNumbers, rua: &[u8], out: &mut [u8]) -> RecordWritten {
-        proved::write_record(numbers, rua, out)
+    fn write(&self, numbers: RecordNumbers, rua: &[u8], out: &mut [u8]) -> Written {
+        calls::write_record(numbers, rua, out)
     }
 
     fn read(&self, text: &[u8]) -> RecordRead {
-        proved::read_record(text)
+        calls::read_record(text)
     }
 }
 
 /// Number 0 is no refusal.
-pub fn accepted(refusal: proved::Refusal) -> Result<(), Refusal> {
+pub fn accepted(refusal: raw::Refusal) -> Result<(), Refusal> {
     match refusal.number {
         0 => Ok(()),
         number => Err(Refusal::new(number, refusal.place)),

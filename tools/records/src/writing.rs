@@ -5,11 +5,12 @@ use std::collections::HashSet;
 
 use crate::agreement::{write, Writing, ROOM};
 use crate::code::{numbers, Code};
-use crate::words::{differing, entry_words, list, not_listed, octet_words};
+use crate::words::differing;
 use evaluator::policy::{listed, Request, Settings, Words, MODES, POLICIES, PSDS, TESTING};
 use evaluator::publishing::{rua_faults, RuaFault, MOST_RUA_OCTETS};
 use evaluator::refusal::Refusal;
 use sheets::description::quoted;
+use sheets::policy_words::{entry_words, list, not_listed, octet_words};
 
 const TAGS: &str = "the tags are p, sp, np, adkim, aspf, psd, t, rua";
 

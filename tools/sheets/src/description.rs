@@ -1,22 +1,30 @@
 //! A readable description of a sheet, and back.
 //!
-//! One item a line; blank lines and lines starting with `#` are ignored.
+//! One item a line, its words in either case. `#` begins a comment, at the start
+//! of a line or after a blank; blank lines are ignored.
 //!
 //! ```text
 //! author news.example.com exists supported
-//! spf pass bounce.example.com
+//! spf pass bounce.example.com            # a comment
 //! dkim temperror other.example
 //! id kind=5 outcome=1 other.example
-//! answer _dmarc.example.com "v=DMARC1; p=reject" "a" + "b"
+//! answer _dmarc.example.com "v=DMARC1; p=reject" "; sp=none"
+//! answer _dmarc.example.com "a second record at this name"
+//! _dmarc.example.net. 300 IN TXT "v=DMARC1; p=none"
 //! answer _dmarc.com none
 //! answer _dmarc.org hex 5458
 //! sheet hex 4155
 //! ```
 
+mod answers;
 mod describe;
+mod described;
+mod escapes;
 mod make;
 mod tokens;
 mod words;
 
 pub use describe::{describe, quoted};
-pub use make::make;
+pub use described::{Described, Mistake};
+pub use make::{make, read};
+pub use words::{word, KINDS, OUTCOMES};

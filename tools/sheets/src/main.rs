@@ -1,50 +1,54 @@
-//! Runs, makes and describes sheets, and generates them from a seed.
+//! Runs, makes and describes sheets, generates them from a seed, and has the
+//! words that the script `dmarc` says of a message.
 
 use std::fs;
 use std::path::Path;
 use std::process::ExitCode;
 
 use evaluator::sheet;
-use sheets::command::{self, failed, input, output};
+use sheets::command::{self, failed, file, input, output};
 use sheets::examples::MARKED;
 use sheets::generate::SheetKind;
-use sheets::programs::cases::Files;
-use sheets::programs::{calls, messages, timing, vectors};
+use sheets::handed::{Form, Handed, STANDARD_INPUT};
+use sheets::message_json::message_json;
+use sheets::next_name::next_name;
+use sheets::notes::notes;
+use sheets::printed::Printed;
+use sheets::programs::messages;
 use sheets::tally::tally;
 use sheets::{description, explain};
 
 const USAGE: &str = "usage:
   dmarc-tools run < sheet
-  dmarc-tools make < description > sheet
+  dmarc-tools make [NAME] < description > sheet
   dmarc-tools describe < sheet
   dmarc-tools explain < sheet
+  dmarc-tools explain FORM NAME INPUT OUTPUT
+  dmarc-tools notes FORM NAME INPUT OUTPUT
+  dmarc-tools next FORM NAME INPUT OUTPUT
+  dmarc-tools json FORM NAME INPUT OUTPUT
   dmarc-tools sheets KIND SEED COUNT DIR
   dmarc-tools tally KIND SEED COUNT
   dmarc-tools marked
-  dmarc-tools vectors CASES EXPECTED
-  dmarc-tools calls CASES EXPECTED
-  dmarc-tools calls DIR COUNT SEED
-  dmarc-tools timing COUNT DIR
   dmarc-tools messages CASES EXPECTED
-KIND is ordinary or hostile.";
-
-/// The kinds of calls.
-const CALLS: &str = "OINARFD";
+KIND is ordinary or hostile. FORM, of the message in the file INPUT, is sheet or
+description; NAME is what it is called in messages, and OUTPUT is a file of what
+the proved program printed for it.";
 
 fn main() -> ExitCode {
     command::run(|words| match words {
         ["run"] => run(),
-        ["make"] => make(),
+        ["make"] => make(STANDARD_INPUT),
+        ["make", name] => make(name),
         ["describe"] => described(),
         ["explain"] => explained(),
+        [what @ ("explain" | "notes" | "next" | "json"), form, name, input, output] => {
+            say_of_message(what, form, name, [input, output])
+        }
         ["sheets", kind, seed, count, dir] => write_sheets(kind, seed, count, dir),
         ["tally", kind, seed, count] => tallied(kind, seed, count),
         ["marked"] => marked(),
-        ["vectors", cases, expected] => write_cases([cases, expected], vectors::files(), "PAFIL"),
-        ["calls", cases, expected] => write_cases([cases, expected], calls::files(), CALLS),
-        ["calls", dir, count, seed] => write_random_calls(dir, count, seed),
-        ["timing", count, dir] => write_timing(count, dir),
-        ["messages", cases, expected] => write_cases([cases, expected], messages::files(), "M"),
+        ["messages", cases, expected] => write_messages(cases, expected),
         _ => Err(USAGE.to_string()),
     })
 }
@@ -60,11 +64,40 @@ fn run() -> Result<(), String> {
 }
 
 fn explained() -> Result<(), String> {
-    output(explain::explain(&sheet_input()?).as_bytes())
+    let handed = Handed::sheet_of(STANDARD_INPUT, &sheet_input()?);
+    output(explain::explain(&handed).as_bytes())
 }
 
-fn make() -> Result<(), String> {
-    output(&description::make(&input(u64::MAX)?)?)
+fn make(name: &str) -> Result<(), String> {
+    let form = Form::Description;
+    let octets = input(form.most_octets())?;
+    output(Handed::read(form, name, &octets)?.sheet())
+}
+
+/// What is said of a message and of what the proved program printed for it.
+fn say_of_message(what: &str, form: &str, name: &str, files: [&str; 2]) -> Result<(), String> {
+    let form = Form::read(form).ok_or("FORM is sheet or description")?;
+    let [input, printed] = files;
+    let handed = Handed::read(form, name, &file(input, form.most_octets())?)?;
+    let octets = file(printed, u64::MAX)?;
+    let printed =
+        Printed::read(&octets).ok_or("the program printed neither a verdict nor a refusal")?;
+    if what == "next" {
+        return output(&next_name(&handed, &printed));
+    }
+    if sheet::run(handed.sheet()) != octets {
+        let differ = "the second evaluator prints something else for this message";
+        return Err(format!("{differ}, so nothing more is said of it"));
+    }
+    let lines = match what {
+        "notes" => notes(&handed, &printed)
+            .iter()
+            .map(|l| format!("{l}\n"))
+            .collect(),
+        "json" => format!("{}\n", message_json(&handed)),
+        _ => explain::explain(&handed),
+    };
+    output(lines.as_bytes())
 }
 
 fn described() -> Result<(), String> {
@@ -73,14 +106,9 @@ fn described() -> Result<(), String> {
 
 fn numbers(kind: &str, seed: &str, count: &str) -> Result<(SheetKind, u64, u64), String> {
     let kind = SheetKind::read(kind).ok_or("KIND is ordinary or hostile")?;
-    let (seed, count) = seed_and_count(seed, count)?;
-    Ok((kind, seed, count))
-}
-
-fn seed_and_count(seed: &str, count: &str) -> Result<(u64, u64), String> {
     let seed = seed.parse().map_err(|_| "SEED is a number")?;
     let count = count.parse().map_err(|_| "COUNT is a number")?;
-    Ok((seed, count))
+    Ok((kind, seed, count))
 }
 
 fn write_sheets(kind_word: &str, seed: &str, count: &str, dir: &str) -> Result<(), String> {
@@ -116,39 +144,12 @@ fn marked() -> Result<(), String> {
     }
 }
 
-/// Writes the cases for another program and what it must print, and prints how
-/// many there are of each kind.
-fn write_cases(paths: [&str; 2], files: Result<Files, String>, kinds: &str) -> Result<(), String> {
-    let ([cases, expected], files) = (paths, files?);
+/// Writes the sheets for a program and what it must print, and prints how many
+/// there are.
+fn write_messages(cases: &str, expected: &str) -> Result<(), String> {
+    let files = messages::files()?;
     fs::write(cases, &files.cases).map_err(failed)?;
     fs::write(expected, &files.expected).map_err(failed)?;
-    for kind in kinds.chars() {
-        let count = files.kinds.iter().filter(|own| char::from(**own) == kind);
-        output(format!("{kind} {}\n", count.count()).as_bytes())?;
-    }
-    Ok(())
-}
-
-/// Writes the calls of random messages as the files `stdin` and `stdout`.
-fn write_random_calls(dir: &str, count: &str, seed: &str) -> Result<(), String> {
-    let (seed, count) = seed_and_count(seed, count)?;
-    fs::create_dir_all(dir).map_err(failed)?;
-    let [cases, expected] = ["stdin", "stdout"].map(|name| format!("{dir}/{name}"));
-    write_cases([&cases, &expected], calls::random_files(count, seed), CALLS)
-}
-
-/// Writes a file for each number of identifiers and length of the walks, named
-/// by both.
-fn write_timing(count: &str, dir: &str) -> Result<(), String> {
-    let count = count.parse().map_err(|_| "COUNT is a number of 32 bits")?;
-    fs::create_dir_all(dir).map_err(failed)?;
-    for identifiers in timing::IDENTIFIERS {
-        for walk in timing::WALKS {
-            let octets = timing::file(count, identifiers, walk);
-            let octets = octets.ok_or("a call is too long for its length")?;
-            let file = Path::new(dir).join(format!("{identifiers}x{walk}"));
-            fs::write(file, octets).map_err(failed)?;
-        }
-    }
-    Ok(())
+    let count = messages::messages()?.len();
+    output(format!("{count} sheets\n").as_bytes())
 }

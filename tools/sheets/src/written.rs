@@ -1,7 +1,11 @@
 //! The octets of sheets and answers.
 
+use evaluator::txt::Status;
+
 /// The longest character-string.
 const MOST_STRING_OCTETS: usize = 255;
+/// The longest body of a record, whose length has 16 bits.
+pub const MOST_BODY_OCTETS: usize = 65_535;
 
 /// A record of a sheet or of an answer, before it is written.
 #[derive(Clone, Debug, PartialEq, Eq)]
@@ -48,11 +52,27 @@ impl Record {
 
 /// Records as a sheet; one whose body is too long is left out.
 pub fn sheet(records: &[Record]) -> Vec<u8> {
-    let mut sheet = Vec::new();
+    sheet_and_places(records).0
+}
+
+/// Records as a sheet, and where each begins there.
+pub fn sheet_and_places(records: &[Record]) -> (Vec<u8>, Vec<usize>) {
+    let (mut sheet, mut places) = (Vec::new(), Vec::new());
     for record in records {
+        places.push(sheet.len());
         let _ = record.push(&mut sheet);
     }
-    sheet
+    (sheet, places)
+}
+
+/// Where each record of a well-formed sheet begins.
+pub fn places(sheet: &[u8]) -> Vec<usize> {
+    let (mut places, mut place) = (Vec::new(), 0);
+    while let Some([_, _, high, low, ..]) = sheet.get(place..) {
+        places.push(place);
+        place += 4 + usize::from(u16::from_be_bytes([*high, *low]));
+    }
+    places
 }
 
 /// The bytes of an answer with these records, each a list of
@@ -80,6 +100,15 @@ pub fn cut(text: &[u8]) -> Vec<&[u8]> {
     match text.is_empty() {
         true => vec![text],
         false => text.chunks(MOST_STRING_OCTETS).collect(),
+    }
+}
+
+/// "status (0 records, 1 none, 2 error)"
+pub fn status_number(status: Status) -> u8 {
+    match status {
+        Status::Records => 0,
+        Status::None => 1,
+        Status::Error => 2,
     }
 }
 

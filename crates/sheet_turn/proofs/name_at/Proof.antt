@@ -19,25 +19,27 @@ same-length : tie.Need-same-length
 same-length c = search needs
 
 returns : tie.Need-returns
+unfolding marked
 returns c =
     let known = c .before in
     let wrote-it = known .before .before .before .before in
-    let start = wrote-it .before .before .before in
+    let start = wrote-it .before .before .before .before .before .before .before .before in
     let a = start .args in
-    let short = marked-short (a .e) (a .walk) (a .place) in
-    let (t, k) = wrote (marked (a .e) (a .walk) (a .place)) (a .name .now) (omega (arith, short, start .pre)) (wrote-it .write-name .ensures) (known .n .given .0 .0) (known .n .given .1) in
+    let short = marked-short (a .t1) (a .walk) (a .place) in
+    let (t, k) = wrote (marked (a .t1) (a .walk) (a .place)) (a .name .now) (omega (arith, short, start .pre)) (wrote-it .write-name .ensures) (known .n .given .0 .0) (known .n .given .1) in
     (t, k, omega (arith, k, short))
 
 same-length-2 : tie.Need-same-length-2
 same-length-2 c = search needs
 
 returns-2 : tie.Need-returns-2
+unfolding marked
 returns-2 c =
     let wrote-it = c .before .before .before .before in
-    let start = wrote-it .before .before .before in
+    let start = wrote-it .before .before .before .before .before .before .before .before in
     let a = start .args in
-    let short = marked-short (a .e) (a .walk) (a .place) in
-    never-short (marked (a .e) (a .walk) (a .place)) (a .name .now) (omega (arith, short, start .pre)) (wrote-it .write-name .ensures) (c .enum-told .given .0 .0) (c .enum-told .given .1)
+    let short = marked-short (a .t1) (a .walk) (a .place) in
+    never-short (marked (a .t1) (a .walk) (a .place)) (a .name .now) (omega (arith, short, start .pre)) (wrote-it .write-name .ensures) (c .enum-told .given .0 .0) (c .enum-told .given .1)
 
 pub name-at-spec : {M : Type 1} → statement M
 name-at-spec =

@@ -1,7 +1,7 @@
 -- `waslidhaj_records::waslidhaj_write_record` meets its contract, by what its calls promise.
 use borrow.Author.Needs.{needs}
 use mathlib.Core.Path.{ap, _∙_}
-use Rattle.publishing.specs.Numbers.{written-numbers}
+use Rattle.octets.specs.Lent.{written-numbers}
 use Rattle.waslidhaj_records.proofs.waslidhaj_write_record.Statement.{statement}
 use Rattle.waslidhaj_records.proofs.waslidhaj_write_record.Tie as tie
 
@@ -11,8 +11,8 @@ settings-in-requires c κs = search needs
 write-record-requires : tie.Need-write-record-requires
 write-record-requires c κs = search needs
 
-written-numbers-requires : tie.Need-written-numbers-requires
-written-numbers-requires c κs = search needs
+number-written-requires : tie.Need-number-written-requires
+number-written-requires c κs = search needs
 
 same-length : tie.Need-same-length
 same-length c = search needs
@@ -22,7 +22,7 @@ returns c =
     let write = c .before .before .before in
     let settings = write .before .before in
     let p = rw (settings .settings-in .ensures) at (write .write-record .ensures) in
-    (c .written-numbers .ensures ∙ ap written-numbers (p .answers), p .leaves)
+    (c .number-written .ensures ∙ ap written-numbers (p .answers), p .leaves)
 
 pub waslidhaj-write-record-spec : {M : Type 1} → statement M
 waslidhaj-write-record-spec =
@@ -30,6 +30,6 @@ waslidhaj-write-record-spec =
     (tie.spec
     settings-in-requires
     write-record-requires
-    written-numbers-requires
+    number-written-requires
     same-length
     returns)

@@ -4,10 +4,10 @@ use super::code::{given_row, make, read_domain, read_row, Code};
 use super::history::{shown, Act, Call, History};
 use super::sums::Sums;
 use super::tally::Tally;
-use crate::proved::rows::{self as proved, Changed, DayList};
 use evaluator::refusal::Refusal;
 use evaluator::rows::{self, Row};
 use records::code::accepted;
+use waslidhaj::raw::{self, List, ListChanged};
 
 type Answer = Result<(), Refusal>;
 
@@ -28,8 +28,8 @@ pub fn check(code: &impl Code, history: &History, tally: &mut Tally) -> Result<(
 /// The code and the second evaluator at the same place of a history.
 struct Run<'c, C> {
     code: &'c C,
-    list: DayList,
-    rows: Vec<proved::Row>,
+    list: List,
+    rows: Vec<raw::Row>,
     expected_list: rows::DayList,
     expected_rows: Vec<Row>,
     /// Nothing where others write the rows.
@@ -92,7 +92,7 @@ impl<'c, C: Code> Run<'c, C> {
 
     /// A refused call, and one that enters, leaves the list as it is, to the
     /// octet.
-    fn same_list(&self, call: &Call, changed: &Changed) -> Result<(), String> {
+    fn same_list(&self, call: &Call, changed: &ListChanged) -> Result<(), String> {
         let clears = matches!(call, Call::Clear(_)) && changed.refusal.number == 0;
         match clears || changed.list == self.list {
             true => Ok(()),

@@ -2,59 +2,59 @@
 //! evaluator's.
 
 use super::history::Call;
-use crate::proved::rows as proved;
-use crate::proved::rows::{Changed, DayList};
 use evaluator::rows;
+use waslidhaj::calls;
+use waslidhaj::raw::{self, List, ListChanged};
 
 /// A list of rows by its three functions.
 pub trait Code {
-    fn new_list(&self) -> DayList;
-    fn clear(&self, list: DayList, domain: &[u8], rows: &mut [proved::Row]) -> Changed;
+    fn new_list(&self) -> List;
+    fn clear(&self, list: List, domain: &[u8], rows: &mut [raw::Row]) -> ListChanged;
     fn enter(
         &self,
-        list: DayList,
-        entry: proved::Entry,
+        list: List,
+        entry: raw::Entry,
         domain: &[u8],
-        rows: &mut [proved::Row],
-    ) -> Changed;
+        rows: &mut [raw::Row],
+    ) -> ListChanged;
 }
 
 /// The proved code.
 pub struct Proved;
 
 impl Code for Proved {
-    fn new_list(&self) -> DayList {
-        proved::new_list()
+    fn new_list(&self) -> List {
+        calls::new_list()
     }
 
-    fn clear(&self, list: DayList, domain: &[u8], rows: &mut [proved::Row]) -> Changed {
-        proved::clear(list, domain, rows)
+    fn clear(&self, list: List, domain: &[u8], rows: &mut [raw::Row]) -> ListChanged {
+        calls::clear(list, domain, rows)
     }
 
     fn enter(
         &self,
-        list: DayList,
-        entry: proved::Entry,
+        list: List,
+        entry: raw::Entry,
         domain: &[u8],
-        rows: &mut [proved::Row],
-    ) -> Changed {
-        proved::enter(list, entry, domain, rows)
+        rows: &mut [raw::Row],
+    ) -> ListChanged {
+        calls::enter(list, entry, domain, rows)
     }
 }
 
 /// Makes a call.
-pub fn make(code: &impl Code, call: &Call, list: DayList, rows: &mut [proved::Row]) -> Changed {
+pub fn make(code: &impl Code, call: &Call, list: List, rows: &mut [raw::Row]) -> ListChanged {
     match call {
         Call::Clear(domain) => code.clear(list, domain, rows),
         Call::Enter(entry) => code.enter(list, given_entry(entry), &entry.finding.domain, rows),
     }
 }
 
-fn given_entry(entry: &rows::Entry) -> proved::Entry {
+fn given_entry(entry: &rows::Entry) -> raw::Entry {
     let finding = &entry.finding;
-    proved::Entry {
+    raw::Entry {
         source: entry.source,
-        finding: proved::Finding {
+        finding: raw::FindingNumbers {
             result: finding.result,
             disposition: finding.disposition,
             dkim: finding.dkim,
@@ -63,10 +63,10 @@ fn given_entry(entry: &rows::Entry) -> proved::Entry {
     }
 }
 
-pub fn given_row(row: &rows::Row) -> proved::Row {
+pub fn given_row(row: &rows::Row) -> raw::Row {
     let seen = &row.seen;
-    proved::Row {
-        seen: proved::Seen {
+    raw::Row {
+        seen: raw::Seen {
             source: seen.source,
             disposition: seen.disposition,
             dkim: seen.dkim,
@@ -76,7 +76,7 @@ pub fn given_row(row: &rows::Row) -> proved::Row {
     }
 }
 
-pub fn read_row(row: &proved::Row) -> rows::Row {
+pub fn read_row(row: &raw::Row) -> rows::Row {
     let seen = &row.seen;
     rows::Row {
         seen: rows::Seen {
@@ -91,7 +91,7 @@ pub fn read_row(row: &proved::Row) -> rows::Row {
 
 /// The list's domain, if it was ever cleared; the error is a length past the
 /// domain's octets.
-pub fn read_domain(list: &DayList) -> Result<Option<&[u8]>, usize> {
+pub fn read_domain(list: &List) -> Result<Option<&[u8]>, usize> {
     match list.cleared {
         false => Ok(None),
         true => list.domain.get(..list.length).map(Some).ok_or(list.length),

@@ -4,7 +4,7 @@ use super::rua;
 use evaluator::publishing::write_record;
 use records::agreement::{Writing, ROOM};
 use records::code::settings;
-use records::proved::RecordNumbers;
+use records::code::RecordNumbers;
 use sheets::generate::any_text;
 use sheets::random::Random;
 

@@ -2,7 +2,7 @@
 
 use super::generate::Case;
 use super::rua::{at_the_limit, entries_of, entry_of};
-use records::proved::RecordNumbers;
+use records::code::RecordNumbers;
 
 /// `p=none`, all else absent or at its default.
 const PLAIN: RecordNumbers = RecordNumbers {

@@ -1,13 +1,13 @@
 //! The check sees every rule that is broken, and the cases come to it.
 
-mod twin;
+pub mod twin;
 
 use super::check::{check_text, check_writing};
 use super::generate::{case, text};
 use super::tally::Tally;
 use super::{compare, odd};
 use records::agreement::Writing;
-use records::proved::RecordNumbers;
+use records::code::RecordNumbers;
 use twin::{Twin, Wrong, ALL};
 
 const SEED: u64 = 5;

@@ -229,8 +229,13 @@ fn point_126_rua_twice_is_no_rua_text() {
 fn texts_that_would_be_records() {
     let bytes = b"TX\0\x12\x11v=DMARC1;x=1;x=1;TX\0\x09\x08v=DMARC1TX\0\x05\x04x;x;";
     let given = Answer::records(bytes);
-    assert_eq!(txt::repeating_texts(given), [b"v=DMARC1;x=1;x=1;"]);
+    let texts = txt::given_texts(given);
+    let expected: [&[u8]; 3] = [b"v=DMARC1;x=1;x=1;", b"v=DMARC1", b"x;x;"];
+    assert_eq!(texts, expected);
+    let repeated: Vec<_> = texts.iter().map(|text| repeated_name(text)).collect();
+    assert_eq!(repeated, [Some(b"x".as_slice()), None, None]);
     assert!(matches!(txt::reply(given), Reply::Record(_)));
-    assert!(txt::repeating_texts(Answer::NONE).is_empty());
-    assert!(txt::repeating_texts(Answer::ERROR).is_empty());
+    assert!(txt::given_texts(Answer::NONE).is_empty());
+    assert!(txt::given_texts(Answer::ERROR).is_empty());
+    assert!(txt::given_texts(Answer::records(b"TX\0\x01")).is_empty());
 }

@@ -2,8 +2,7 @@
 
 use evaluator::policy::Settings;
 use records::agreement::{self, Reading, Writing};
-use records::code::{numbers, Code, Proved};
-use records::proved::{RecordNumbers, RecordRead, RecordWritten};
+use records::code::{numbers, Code, Proved, RecordNumbers, RecordRead, Written};
 use records::{reading, writing};
 
 const DIFFER: &str = "the proved code and the second evaluator differ, so nothing is said: ";
@@ -12,7 +11,7 @@ const DIFFER: &str = "the proved code and the second evaluator differ, so nothin
 struct Other;
 
 impl Code for Other {
-    fn write(&self, numbers: RecordNumbers, rua: &[u8], out: &mut [u8]) -> RecordWritten {
+    fn write(&self, numbers: RecordNumbers, rua: &[u8], out: &mut [u8]) -> Written {
         let mut written = Proved.write(numbers, rua, out);
         written.length += 1;
         written

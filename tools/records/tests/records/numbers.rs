@@ -2,8 +2,8 @@
 
 use evaluator::policy::{Mode, Policy, Psd, Request, Settings};
 use evaluator::refusal::Refusal;
-use records::code::{accepted, numbers, settings};
-use records::proved::{self, RecordNumbers};
+use records::code::{accepted, numbers, settings, RecordNumbers};
+use waslidhaj::raw;
 
 #[test]
 fn listed_numbers() {
@@ -71,7 +71,7 @@ fn unlisted_numbers() {
 
 #[test]
 fn refusals() {
-    let refusal = |number, place| proved::Refusal { number, place };
+    let refusal = |number, place| raw::Refusal { number, place };
     assert_eq!(accepted(refusal(0, 0)), Ok(()));
     assert_eq!(accepted(refusal(10, 16)), Err(Refusal::new(10, 16)));
 }

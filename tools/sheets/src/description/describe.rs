@@ -15,7 +15,7 @@ pub fn describe(octets: &[u8]) -> String {
         text.push_str(&identifier_line(identifier));
     }
     for answer in &sheet.answers {
-        text.push_str(&answer_line(answer));
+        text.push_str(&answer_lines(answer));
     }
     text
 }
@@ -39,24 +39,26 @@ fn identifier_line(given: &GivenIdentifier) -> String {
     format!("{said} {}\n", domain_word(given.domain))
 }
 
-fn answer_line(given: &GivenAnswer) -> String {
+/// A line for each record, or one for an answer without any.
+fn answer_lines(given: &GivenAnswer) -> String {
     let name = domain_word(given.name);
     let said = match given.answer.status {
-        Status::None => "none".to_string(),
-        Status::Error => "error".to_string(),
+        Status::None => vec!["none".to_string()],
+        Status::Error => vec!["error".to_string()],
         Status::Records => records_words(given.answer.bytes),
     };
-    format!("answer {name} {said}\n")
+    let lines = said.iter().map(|said| format!("answer {name} {said}\n"));
+    lines.collect()
 }
 
 /// An answer's records as quoted texts, or its bytes in hex if it has none.
-fn records_words(bytes: &[u8]) -> String {
+fn records_words(bytes: &[u8]) -> Vec<String> {
     match txt::records(bytes) {
         Some(records) if !records.is_empty() => {
             let words = records.iter().map(|strings| record_words(strings));
-            words.collect::<Vec<String>>().join(" ")
+            words.collect()
         }
-        _ => format!("hex {}", hex(bytes)).trim_end().to_string(),
+        _ => vec![format!("hex {}", hex(bytes)).trim_end().to_string()],
     }
 }
 
@@ -67,7 +69,7 @@ fn record_words(strings: &[&[u8]]) -> String {
         return quoted(&text);
     }
     let words: Vec<String> = strings.iter().map(|string| quoted(string)).collect();
-    words.join(" + ")
+    words.join(" ")
 }
 
 /// A text between quotes, with escapes where they are needed.

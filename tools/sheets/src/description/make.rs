@@ -1,102 +1,174 @@
 //! The sheet of a description.
 
-use super::tokens::{domain_octets, hex_words, tokens, Token};
+use std::collections::HashMap;
+
+use super::answers::{answer, pasted, AnswerLine};
+use super::described::{Described, Mistake};
+use super::tokens::{after_front, domain_octets, hex_words, tokens, Token};
 use super::words::{number, EXISTENCES, OUTCOMES, SUPPORTS};
-use crate::written::{answer_bytes, cut, Record};
-use evaluator::domain;
+use crate::domain_words;
+use crate::shown::brief;
+use crate::written::{sheet_and_places, Record, MOST_BODY_OCTETS};
+use evaluator::domain::{self, without_dot};
 use evaluator::sheet;
 
 const ITEMS: &str = "a line begins with author, spf, dkim, id, answer or sheet";
+const NO_AUTHOR: &str =
+    "the description has no author line, such as: author example.com exists supported";
+/// The mark that some editors write before a text in UTF-8.
+const BYTE_ORDER_MARK: &[u8] = b"\xef\xbb\xbf";
 
-/// A sheet under way, with the line of each record.
+/// A sheet under way.
 #[derive(Default)]
 struct Maker {
-    sheet: Vec<u8>,
-    /// Each record's place on the sheet and its line.
-    lines: Vec<(usize, usize)>,
-    /// The line of a `sheet hex`, which stands alone.
-    whole: Option<usize>,
+    /// Each record and its line.
+    records: Vec<(Record, usize)>,
+    /// The answered names in lower case without a final dot: which record has
+    /// the answer, and whether other lines may add to it.
+    answered: HashMap<Vec<u8>, (usize, bool)>,
+    /// The octets of a `sheet hex`, which stands alone, and its line.
+    whole: Option<(Vec<u8>, usize)>,
 }
 
 /// Makes the sheet of a description; an error is `line N: plain reason`.
 pub fn make(description: &[u8]) -> Result<Vec<u8>, String> {
+    let described = read(description).map_err(|mistake| mistake.to_string())?;
+    Ok(described.sheet)
+}
+
+/// Reads a description.
+pub fn read(description: &[u8]) -> Result<Described, Mistake> {
     let mut maker = Maker::default();
-    for (index, line) in description.split(|octet| *octet == b'\n').enumerate() {
-        let (number, line) = (index + 1, line.trim_ascii());
-        if line.is_empty() || line.starts_with(b"#") {
-            continue;
-        }
-        tokens(line)
-            .and_then(|tokens| maker.item(&tokens, number))
-            .map_err(|reason| format!("line {number}: {reason}"))?;
+    let text = description.strip_prefix(BYTE_ORDER_MARK);
+    let lines = text.unwrap_or(description).split(|octet| *octet == b'\n');
+    for (line, text) in (1..).zip(lines) {
+        let taken = tokens(text).and_then(|tokens| maker.line(&tokens, line));
+        taken.map_err(|reason| Mistake { line, reason })?;
     }
     maker.finish()
 }
 
 impl Maker {
-    fn item(&mut self, tokens: &[Token], line: usize) -> Result<(), String> {
-        let Some((Token::Word(head), rest)) = tokens.split_first() else {
-            return Err("an item begins with a word, not with a quoted text".to_string());
-        };
-        if self.whole.is_some() || (head == b"sheet" && !self.lines.is_empty()) {
+    fn line(&mut self, tokens: &[Token], line: usize) -> Result<(), String> {
+        match tokens.split_first() {
+            None => Ok(()),
+            Some((Token::Word(head), rest)) => self.item(head, rest, tokens, line),
+            Some((Token::Quoted(_), _)) => {
+                let before = "put `answer` and the asked name before it";
+                Err(format!(
+                    "a line does not begin with a quoted text; {before}"
+                ))
+            }
+        }
+    }
+
+    fn item(
+        &mut self,
+        head: &[u8],
+        rest: &[Token],
+        tokens: &[Token],
+        line: usize,
+    ) -> Result<(), String> {
+        let head_word = head.to_ascii_lowercase();
+        if self.whole.is_some() || (head_word == b"sheet" && !self.records.is_empty()) {
             return Err("`sheet` stands alone in a description".to_string());
         }
-        match head.as_slice() {
+        match head_word.as_slice() {
             b"author" => self.record(line, author(rest)?),
             b"spf" => self.record(line, identifier(0, rest)?),
             b"dkim" => self.record(line, identifier(1, rest)?),
             b"id" => self.record(line, raw_identifier(rest)?),
-            b"answer" => self.record(line, answer(rest)?),
+            b"answer" => self.answer(line, answer(rest)?),
             b"sheet" => {
-                self.whole = Some(line);
-                self.sheet = hex_words(rest)?;
+                self.whole = Some((hex_words(rest)?, line));
                 Ok(())
             }
-            _ => Err(format!("unknown item `{}`; {ITEMS}", head.escape_ascii())),
+            _ => match pasted(tokens) {
+                Some(read) => self.answer(line, read?),
+                None => Err(format!("unknown item `{}`; {ITEMS}", brief(head))),
+            },
         }
     }
 
     fn record(&mut self, line: usize, record: Record) -> Result<(), String> {
-        self.lines.push((self.sheet.len(), line));
-        let pushed = record.push(&mut self.sheet);
-        pushed.ok_or_else(|| "longer than the 65535 octets of a sheet record".to_string())
+        fits(&record)?;
+        self.records.push((record, line));
+        Ok(())
+    }
+
+    /// A name's first line is where its answer stands; further records add to it.
+    fn answer(&mut self, line: usize, answer: AnswerLine) -> Result<(), String> {
+        let name = without_dot(&answer.name).to_ascii_lowercase();
+        let next = (self.records.len(), answer.adds);
+        let (at, adds) = *self.answered.entry(name).or_insert(next);
+        match self.records.get_mut(at) {
+            None => {
+                let record = Record::answer(answer.status, &answer.name, &answer.bytes);
+                self.record(line, record)
+            }
+            Some((record, _)) if adds && answer.adds => {
+                record.body.extend(&answer.bytes);
+                fits(record)
+            }
+            Some(_) => Err("the name is answered already".to_string()),
+        }
     }
 
     /// A description other than `sheet hex` is of a well-formed sheet.
-    fn finish(self) -> Result<Vec<u8>, String> {
-        let refusal = match sheet::read(&self.sheet) {
-            Err(refusal) if self.whole.is_none() => refusal,
-            _ => return Ok(self.sheet),
-        };
-        let at = self.lines.iter().find(|(place, _)| *place == refusal.place);
-        let last = self.lines.last();
-        let line = at.or(last).map_or(1, |(_, line)| *line);
-        let reason = match at {
-            Some((place, _)) => broken(&self.sheet, *place),
-            None if self.lines.is_empty() => "the description has no author line",
-            None => "the sheet is over 65536 octets",
-        };
-        Err(format!("line {line}: {reason}"))
+    fn finish(self) -> Result<Described, Mistake> {
+        if let Some((sheet, line)) = self.whole {
+            let lines = vec![(0, line)];
+            return Ok(Described { sheet, lines });
+        }
+        let (records, lines): (Vec<Record>, Vec<usize>) = self.records.into_iter().unzip();
+        let (sheet, places) = sheet_and_places(&records);
+        let lines = places.into_iter().zip(lines).collect();
+        let described = Described { sheet, lines };
+        match sheet::read(&described.sheet) {
+            Ok(_) => Ok(described),
+            Err(refusal) => Err(mistake(&described, refusal.place)),
+        }
+    }
+}
+
+fn fits(record: &Record) -> Result<(), String> {
+    match record.body.len() > MOST_BODY_OCTETS {
+        true => Err("longer than the 65535 octets of a sheet record".to_string()),
+        false => Ok(()),
+    }
+}
+
+/// What is wrong with a description whose sheet is broken at a place.
+fn mistake(described: &Described, place: usize) -> Mistake {
+    let at = described.lines.iter().find(|(begin, _)| *begin == place);
+    let last = described.lines.last();
+    let reason = match at {
+        Some((place, _)) => broken(&described.sheet, *place),
+        None if described.lines.is_empty() => NO_AUTHOR.to_string(),
+        None => "the sheet is over 65536 octets".to_string(),
+    };
+    Mistake {
+        line: at.or(last).map_or(1, |(_, line)| *line),
+        reason,
     }
 }
 
 /// Why the record at a place of a made sheet is broken.
-fn broken(sheet: &[u8], place: usize) -> &'static str {
+fn broken(sheet: &[u8], place: usize) -> String {
     match (sheet.get(place..).unwrap_or_default(), place) {
-        ([b'A', b'U', ..], _) => "a second author line",
-        (_, 0) => "the author line comes first",
-        ([b'I', b'D', ..], _) => "identifiers come before answers",
-        ([_, _, _, _, _, length, rest @ ..], _) if breaks_rule(rest, *length) => {
-            "the name breaks the domain rule"
+        ([b'A', b'U', ..], 1..) => "a second author line".to_string(),
+        (_, 0) => "the author line comes first".to_string(),
+        ([b'I', b'D', ..], _) => "identifiers come before answers".to_string(),
+        ([_, _, _, _, _, length, rest @ ..], _) => {
+            let name = rest.get(..usize::from(*length)).unwrap_or_default();
+            let why = domain::fault(name).map(|_| domain_words::why(name));
+            format!(
+                "the name breaks the domain rule: {}",
+                why.unwrap_or_default()
+            )
         }
-        _ => "the name is answered already",
+        _ => "the line makes a broken record".to_string(),
     }
-}
-
-/// Whether a name of so many octets breaks the domain rule.
-fn breaks_rule(octets: &[u8], length: u8) -> bool {
-    let name = octets.get(..usize::from(length)).unwrap_or_default();
-    domain::fault(name).is_some()
 }
 
 fn number_of(words: &[&str], token: &Token, what: &str) -> Result<u8, String> {
@@ -113,18 +185,20 @@ fn raw_number(token: &Token, name: &str) -> Result<u8, String> {
     let Token::Word(word) = token else {
         return Err(fault());
     };
-    let digits = word.strip_prefix(format!("{name}=").as_bytes());
+    let digits = after_front(word, &format!("{name}="));
     let text = digits.and_then(|digits| std::str::from_utf8(digits).ok());
     text.and_then(|text| text.parse().ok()).ok_or_else(fault)
 }
 
-const AUTHOR_FORM: &str = "author takes a domain, its existence and whether rejecting is supported";
+const AUTHOR_FORM: &str =
+    "author takes a domain, its existence and whether rejecting is supported, \
+     as in: author example.com exists supported";
 
 fn author(tokens: &[Token]) -> Result<Record, String> {
     let [domain, existence, support] = tokens else {
         return Err(AUTHOR_FORM.to_string());
     };
-    let raw = matches!(existence, Token::Word(word) if word.starts_with(b"existence="));
+    let raw = matches!(existence, Token::Word(word) if after_front(word, "existence=").is_some());
     let (existence, support) = match raw {
         true => (
             raw_number(existence, "existence")?,
@@ -138,11 +212,16 @@ fn author(tokens: &[Token]) -> Result<Record, String> {
     Ok(Record::author(existence, support, &domain_octets(domain)?))
 }
 
+const OTHER_OUTCOMES: &str = "softfail, neutral, none and permerror are fail";
+
 fn identifier(kind: u8, tokens: &[Token]) -> Result<Record, String> {
     let [outcome, domain] = tokens else {
-        return Err("an identifier takes an outcome and a domain".to_string());
+        return Err(
+            "an identifier takes an outcome and a domain, as in: dkim pass example.com".to_string(),
+        );
     };
-    let outcome = number_of(&OUTCOMES, outcome, "outcome")?;
+    let outcome = number_of(&OUTCOMES, outcome, "outcome");
+    let outcome = outcome.map_err(|reason| format!("{reason}; {OTHER_OUTCOMES}"))?;
     Ok(Record::identifier(kind, outcome, &domain_octets(domain)?))
 }
 
@@ -152,44 +231,4 @@ fn raw_identifier(tokens: &[Token]) -> Result<Record, String> {
     };
     let (kind, outcome) = (raw_number(kind, "kind")?, raw_number(outcome, "outcome")?);
     Ok(Record::identifier(kind, outcome, &domain_octets(domain)?))
-}
-
-fn answer(tokens: &[Token]) -> Result<Record, String> {
-    let Some((name, said)) = tokens.split_first() else {
-        return Err("answer takes a name and what was answered".to_string());
-    };
-    let name = domain_octets(name)?;
-    if name.len() > usize::from(u8::MAX) {
-        return Err("the name is over 255 octets".to_string());
-    }
-    let (status, bytes) = match said {
-        [word] if word.is("none") => (1, Vec::new()),
-        [word] if word.is("error") => (2, Vec::new()),
-        [word, ..] if word.is("hex") => (0, hex_words(said)?),
-        _ => (0, quoted_records(said)?),
-    };
-    Ok(Record::answer(status, &name, &bytes))
-}
-
-const ANSWER_FORMS: &str = "an answer is none, error, quoted texts, or hex and its digits";
-
-/// Quoted texts, each one TX record; a plus sign joins two to one record.
-fn quoted_records(tokens: &[Token]) -> Result<Vec<u8>, String> {
-    let mut records: Vec<Vec<&[u8]>> = Vec::new();
-    let mut joined = false;
-    for token in tokens {
-        match token {
-            Token::Quoted(text) => match records.last_mut() {
-                Some(record) if joined => record.extend(cut(text)),
-                _ => records.push(cut(text)),
-            },
-            Token::Word(word) if word == b"+" && !joined && !records.is_empty() => {}
-            Token::Word(_) => return Err(ANSWER_FORMS.to_string()),
-        }
-        joined = matches!(token, Token::Word(_));
-    }
-    if joined || records.is_empty() {
-        return Err(ANSWER_FORMS.to_string());
-    }
-    answer_bytes(&records).ok_or_else(|| "a record is over 65535 octets".to_string())
 }

@@ -1,5 +1,7 @@
 //! The words of a description line, and the octets they stand for.
 
+use super::escapes::{hex_octet, quoted_text};
+
 /// A word of a description line.
 #[derive(Debug, PartialEq, Eq)]
 pub enum Token {
@@ -8,64 +10,36 @@ pub enum Token {
 }
 
 impl Token {
-    /// Whether it is this word, without quotes.
+    /// Whether it is this word in either case, without quotes.
     pub fn is(&self, word: &str) -> bool {
-        matches!(self, Token::Word(own) if own == word.as_bytes())
+        matches!(self, Token::Word(own) if own.eq_ignore_ascii_case(word.as_bytes()))
     }
 }
 
-/// Parts a line into words and quoted texts.
+/// Parts a line into words and quoted texts, up to its comment.
 pub fn tokens(line: &[u8]) -> Result<Vec<Token>, String> {
     let mut tokens = Vec::new();
     let mut rest = line.trim_ascii_start();
+    let mut after_blank = true;
     while let Some((first, after)) = rest.split_first() {
-        if *first == b'"' {
+        if *first == b'#' && after_blank {
+            break;
+        }
+        let left = if *first == b'"' {
             let (text, left) = quoted_text(after)?;
             tokens.push(Token::Quoted(text));
-            rest = left;
+            left
         } else {
             let ends = |octet: &u8| octet.is_ascii_whitespace() || *octet == b'"';
             let length = rest.iter().position(ends).unwrap_or(rest.len());
             let (word, left) = rest.split_at(length);
             tokens.push(Token::Word(word.to_vec()));
-            rest = left;
-        }
-        rest = rest.trim_ascii_start();
+            left
+        };
+        rest = left.trim_ascii_start();
+        after_blank = rest.len() < left.len();
     }
     Ok(tokens)
-}
-
-/// A quoted text after its opening quote, and what lies after its closing one.
-fn quoted_text(text: &[u8]) -> Result<(Vec<u8>, &[u8]), String> {
-    let mut out = Vec::new();
-    let mut rest = text;
-    loop {
-        rest = match rest {
-            [] => return Err("a quoted text is not closed".to_string()),
-            [b'"', after @ ..] => return Ok((out, after)),
-            [b'\\', b'x', high, low, after @ ..] => {
-                out.push(hex_octet(*high, *low)?);
-                after
-            }
-            [b'\\', octet @ (b'"' | b'\\'), after @ ..] => {
-                out.push(*octet);
-                after
-            }
-            [b'\\', ..] => return Err("the escapes are \\\", \\\\ and \\xHH".to_string()),
-            [octet, after @ ..] => {
-                out.push(*octet);
-                after
-            }
-        };
-    }
-}
-
-fn hex_octet(high: u8, low: u8) -> Result<u8, String> {
-    let digit = |octet: u8| char::from(octet).to_digit(16);
-    match (digit(high), digit(low)) {
-        (Some(high), Some(low)) => Ok((high * 16 + low) as u8),
-        _ => Err("not a hex digit".to_string()),
-    }
 }
 
 fn hex_text(text: &[u8]) -> Result<Vec<u8>, String> {
@@ -90,11 +64,17 @@ pub fn hex_words(tokens: &[Token]) -> Result<Vec<u8>, String> {
     hex_text(&digits)
 }
 
+/// What comes after the front of a word, which may be in either case.
+pub fn after_front<'a>(word: &'a [u8], front: &str) -> Option<&'a [u8]> {
+    let (own, rest) = word.split_at_checked(front.len())?;
+    own.eq_ignore_ascii_case(front.as_bytes()).then_some(rest)
+}
+
 /// A domain or name: plain, or in hex after `hex:`.
 pub fn domain_octets(token: &Token) -> Result<Vec<u8>, String> {
     match token {
         Token::Quoted(_) => Err("a domain is not quoted".to_string()),
-        Token::Word(word) => match word.strip_prefix(b"hex:") {
+        Token::Word(word) => match after_front(word, "hex:") {
             Some(digits) => hex_text(digits),
             None => Ok(word.clone()),
         },

@@ -10,8 +10,9 @@ pub fn word<'a>(words: &[&'a str], number: u8) -> Option<&'a str> {
     words.get(usize::from(number)).copied()
 }
 
-/// The number of a word, if it is one of these.
+/// The number of a word in either case, if it is one of these.
 pub fn number(words: &[&str], word: &[u8]) -> Option<u8> {
-    let at = words.iter().position(|known| known.as_bytes() == word)?;
+    let own = |known: &&str| word.eq_ignore_ascii_case(known.as_bytes());
+    let at = words.iter().position(own)?;
     u8::try_from(at).ok()
 }

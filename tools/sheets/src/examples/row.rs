@@ -127,7 +127,7 @@ impl Said {
     /// As a line of a description.
     fn words(self) -> String {
         match self {
-            Said::Record(strings) => format!("\"{}\"", strings.join("\" + \"")),
+            Said::Record(strings) => format!("\"{}\"", strings.join("\" \"")),
             Said::Error => "error".to_string(),
         }
     }

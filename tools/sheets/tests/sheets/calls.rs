@@ -1,38 +1,54 @@
 //! The lists of calls: lines written by hand from document 01 and the readings,
-//! found by their calls in the octets that another program reads.
+//! found by their calls.
 
 use std::collections::BTreeMap;
 
 use crate::octets::three;
-use crate::stored::{cases, check_stored, Case as Call};
-use sheets::programs::calls::files;
+use evaluator::txt::Status;
+use sheets::programs::calls::{self, AddCall, AnswerCall, Call, OpenCall};
 
-fn calls() -> Vec<Call> {
-    cases(files())
+/// A call, and its line.
+pub type Made = (Call, String);
+
+/// The calls with their lines.
+pub fn made(calls: Vec<Call>) -> Vec<Made> {
+    let lines = calls::lines(&calls);
+    calls.into_iter().zip(lines).collect()
 }
 
-/// The bodies of a message's opening and of its identifiers.
-type Message = (Vec<u8>, Vec<Vec<u8>>);
+fn fixed() -> Vec<Made> {
+    made(calls::fixed().expect("messages that can be written"))
+}
+
+/// A message's opening and its identifiers.
+type Message = (Call, Vec<Call>);
 
 /// Existence, support, author; and the identifiers.
-fn message(existence: u8, support: u8, author: &[u8], identifiers: &[Vec<u8>]) -> Message {
-    (item(existence, support, author), identifiers.to_vec())
+fn message(existence: u8, support: u8, author: &[u8], identifiers: &[Call]) -> Message {
+    (open(existence, support, author), identifiers.to_vec())
 }
 
-/// Two numbers and a domain: existence, support, author; or kind, outcome, domain.
-fn item(first: u8, second: u8, domain: &[u8]) -> Vec<u8> {
-    [&[first, second], domain].concat()
+fn open(existence: u8, support: u8, author: &[u8]) -> Call {
+    Call::Open(OpenCall {
+        author: author.to_vec(),
+        existence,
+        support,
+    })
+}
+
+fn add(kind: u8, outcome: u8, domain: &[u8]) -> Call {
+    Call::Add(AddCall::new(kind, outcome, domain))
 }
 
 /// The calls after each accepted opening of this message, up to the next accepted
 /// opening.
-fn messages<'a>(calls: &'a [Call], (open, identifiers): &Message) -> Vec<&'a [Call]> {
-    let parts = calls.split_inclusive(|(_, _, line)| line == "open accepted");
-    let parts: Vec<&[Call]> = parts.collect();
-    let begins = |part: &[Call]| part.last().is_some_and(|call| call.1 == *open);
-    let added = |part: &[Call]| {
-        let accepted = part.iter().filter(|(_, _, line)| line == "add accepted");
-        accepted.map(|call| &call.1).eq(identifiers)
+fn messages<'a>(calls: &'a [Made], (open, identifiers): &Message) -> Vec<&'a [Made]> {
+    let parts = calls.split_inclusive(|(_, line)| line == "open accepted");
+    let parts: Vec<&[Made]> = parts.collect();
+    let begins = |part: &[Made]| part.last().is_some_and(|made| made.0 == *open);
+    let added = |part: &[Made]| {
+        let accepted = part.iter().filter(|(_, line)| line == "add accepted");
+        accepted.map(|made| &made.0).eq(identifiers)
     };
     let pairs = parts.windows(2);
     let pairs = pairs.filter(|pair| begins(pair[0]) && added(pair[1]));
@@ -41,9 +57,9 @@ fn messages<'a>(calls: &'a [Call], (open, identifiers): &Message) -> Vec<&'a [Ca
 
 /// The names that a message asks, each once, its verdicts by both calls, and
 /// what would be entered of it.
-fn said(calls: &[Call]) -> (Vec<&str>, Vec<&str>, Vec<&str>) {
+fn said(calls: &[Made]) -> (Vec<&str>, Vec<&str>, Vec<&str>) {
     let (mut names, mut verdicts, mut findings) = (Vec::new(), Vec::new(), Vec::new());
-    for (_, _, line) in calls {
+    for (_, line) in calls {
         let (_, words) = line.split_once(' ').expect("two words");
         if let Some(name) = words.strip_prefix("ask _dmarc.") {
             // A name may be given again before its answer.
@@ -59,7 +75,7 @@ fn said(calls: &[Call]) -> (Vec<&str>, Vec<&str>, Vec<&str>) {
 
 /// Checks that there is a message that asks these names and gives this verdict,
 /// twice by each of both calls, and twice this finding.
-fn check(calls: &[Call], given: &Message, names: &[&str], verdict: &str, finding: &str) {
+fn check(calls: &[Made], given: &Message, names: &[&str], verdict: &str, finding: &str) {
     let said: Vec<_> = messages(calls, given).into_iter().map(said).collect();
     let expected = (names.to_vec(), vec![verdict; 4], vec![finding; 2]);
     assert!(said.contains(&expected), "{expected:?} is none of {said:?}");
@@ -85,9 +101,9 @@ fn finding([result, disposition, dkim, spf]: [u8; 4], domain: &str) -> String {
 
 #[test]
 fn marked_sheets() {
-    let calls = calls();
-    let dkim = |domain: &[u8]| vec![item(1, 1, domain)];
-    let spf = |domain: &[u8]| vec![item(0, 1, domain)];
+    let calls = fixed();
+    let dkim = |domain: &[u8]| vec![add(1, 1, domain)];
+    let spf = |domain: &[u8]| vec![add(0, 1, domain)];
     let example = |support| message(1, support, b"example.com", &spf(b"mail.example.com"));
     let news = |existence| message(existence, 1, b"news.example.com", &[]);
     let walk = ["news.example.com", "example.com", "com"];
@@ -235,9 +251,9 @@ fn marked_sheets() {
 /// Reading 126.
 #[test]
 fn one_tag_twice() {
-    let calls = calls();
+    let calls = fixed();
     let of = |kind| {
-        let identifier = item(kind, 1, b"mail.example.com");
+        let identifier = add(kind, 1, b"mail.example.com");
         message(1, 1, b"twice.example.com", &[identifier])
     };
     let names = [
@@ -256,11 +272,11 @@ fn one_tag_twice() {
 
 #[test]
 fn as_many_names_as_there_can_be() {
-    let calls = calls();
-    let identifiers: Vec<Vec<u8>> = (0..16)
+    let calls = fixed();
+    let identifiers: Vec<Call> = (0..16)
         .map(|number| {
             let domain = format!("a.b.c.d.e.f.g.t{number}");
-            item(u8::from(number != 9), 1, domain.as_bytes())
+            add(u8::from(number != 9), 1, domain.as_bytes())
         })
         .collect();
     let given = message(1, 1, b"a.b.c.d.e.f.g.t", &identifiers);
@@ -281,23 +297,23 @@ fn as_many_names_as_there_can_be() {
 
 #[test]
 fn refused_openings() {
-    let calls = calls();
-    let table: [(Vec<u8>, &str); 9] = [
+    let calls = fixed();
+    let table: [(Call, &str); 9] = [
         // "0 if empty", and where the first bad label begins.
-        (item(1, 1, b""), "1 at 0"),
-        (item(1, 1, b"."), "1 at 0"),
-        (item(1, 1, b".."), "1 at 0"),
-        (item(1, 1, b"com.."), "1 at 4"),
-        (item(1, 1, b"a b."), "1 at 0"),
-        (item(1, 1, b"a.b.c.\0"), "1 at 6"),
+        (open(1, 1, b""), "1 at 0"),
+        (open(1, 1, b"."), "1 at 0"),
+        (open(1, 1, b".."), "1 at 0"),
+        (open(1, 1, b"com.."), "1 at 4"),
+        (open(1, 1, b"a b."), "1 at 0"),
+        (open(1, 1, b"a.b.c.\0"), "1 at 6"),
         // 1 before 3.
-        (item(3, 2, b"a.b..c"), "1 at 4"),
-        (item(3, 1, b"other.test"), "3 at 255"),
-        (item(1, 2, b"other.test"), "3 at 255"),
+        (open(3, 2, b"a.b..c"), "1 at 4"),
+        (open(3, 1, b"other.test"), "3 at 255"),
+        (open(1, 2, b"other.test"), "3 at 255"),
     ];
-    for (body, refusal) in table {
-        let found = calls.iter().find(|call| call.0 == b'O' && call.1 == body);
-        let (_, _, line) = found.unwrap_or_else(|| panic!("no opening {}", body.escape_ascii()));
+    for (call, refusal) in table {
+        let found = calls.iter().find(|made| made.0 == call);
+        let (_, line) = found.unwrap_or_else(|| panic!("no call {call}"));
         assert_eq!(*line, format!("open refused {refusal}"));
     }
 }
@@ -305,61 +321,61 @@ fn refused_openings() {
 /// 3, 4, 2 of an identifier after others; after a next step it is too late.
 #[test]
 fn refused_identifiers() {
-    let calls = calls();
-    let good = item(1, 1, b"example.com");
-    let spf = item(0, 0, b"example.com");
-    let bad = item(1, 1, b"example..com");
+    let calls = fixed();
+    let good = add(1, 1, b"example.com");
+    let spf = add(0, 0, b"example.com");
+    let bad = add(1, 1, b"example..com");
     let sixteen = [vec![spf.clone()], vec![good.clone(); 15]].concat();
     let table = [
-        (vec![], item(2, 1, b"example.com"), "3 at 0"),
+        (vec![], add(2, 1, b"example.com"), "3 at 0"),
         (
             vec![good.clone(), spf.clone()],
-            item(255, 255, b""),
+            add(255, 255, b""),
             "3 at 2",
         ),
-        (vec![good.clone()], item(2, 0, b"a..b"), "3 at 1"),
+        (vec![good.clone()], add(2, 0, b"a..b"), "3 at 1"),
         (vec![spf.clone()], spf.clone(), "4 at 1"),
         (
             vec![spf.clone(), good.clone()],
-            item(0, 1, b"a..b"),
+            add(0, 1, b"a..b"),
             "4 at 2",
         ),
-        (vec![spf.clone()], item(0, 3, b"a.b"), "3 at 1"),
+        (vec![spf.clone()], add(0, 3, b"a.b"), "3 at 1"),
         (sixteen.clone(), good.clone(), "4 at 16"),
         (sixteen.clone(), bad.clone(), "4 at 16"),
-        (sixteen.clone(), item(2, 1, b"a.b"), "3 at 16"),
+        (sixteen.clone(), add(2, 1, b"a.b"), "3 at 16"),
         (vec![], bad.clone(), "2 at 0"),
         (vec![good.clone()], bad, "2 at 1"),
         // Final dots.
-        (vec![], item(1, 1, b"."), "2 at 0"),
-        (vec![good.clone()], item(0, 1, b".."), "2 at 1"),
-        (vec![], item(1, 2, b"a.b.."), "2 at 0"),
+        (vec![], add(1, 1, b"."), "2 at 0"),
+        (vec![good.clone()], add(0, 1, b".."), "2 at 1"),
+        (vec![], add(1, 2, b"a.b.."), "2 at 0"),
     ];
     for (accepted, refused, refusal) in table {
-        let add = |body: &[u8], line: &str| (b'I', body.to_vec(), format!("add {line}"));
-        let opening = (b'O', item(1, 1, b"other.test"), "open accepted".to_string());
+        let added = |call: &Call, line: &str| (call.clone(), format!("add {line}"));
+        let opening = (open(1, 1, b"other.test"), "open accepted".to_string());
         let mut expected = vec![opening];
-        expected.extend(accepted.iter().map(|body| add(body, "accepted")));
-        expected.push(add(&refused, &format!("refused {refusal}")));
-        expected.push((b'N', Vec::new(), "next ask _dmarc.other.test".to_string()));
-        expected.push(add(&refused, "refused 17 at 0"));
-        assert!(has(&calls, &expected), "{}", refused.escape_ascii());
+        expected.extend(accepted.iter().map(|call| added(call, "accepted")));
+        expected.push(added(&refused, &format!("refused {refusal}")));
+        expected.push((Call::Next, "next ask _dmarc.other.test".to_string()));
+        expected.push(added(&refused, "refused 17 at 0"));
+        assert!(has(&calls, &expected), "{refused}");
     }
 }
 
 /// Whether these calls come, with these lines, one after the other.
-fn has(calls: &[Call], wanted: &[Call]) -> bool {
+fn has(calls: &[Made], wanted: &[Made]) -> bool {
     calls.windows(wanted.len()).any(|part| part == wanted)
 }
 
-/// Kind, body and line of a call.
-type Expected<'a> = (u8, Vec<u8>, &'a str);
+/// A call and its line.
+type Expected<'a> = (Call, &'a str);
 
 /// Checks that these calls come one after the other.
 fn check_row(row: &[Expected]) {
-    let call = |(kind, body, line): &Expected| (*kind, body.clone(), line.to_string());
-    let wanted: Vec<Call> = row.iter().map(call).collect();
-    assert!(has(&calls(), &wanted), "{wanted:?}");
+    let made = |(call, line): &Expected| (call.clone(), line.to_string());
+    let wanted: Vec<Made> = row.iter().map(made).collect();
+    assert!(has(&fixed(), &wanted), "{wanted:?}");
 }
 
 /// An identifier of the author, one of kind 2 and one with a bad domain, and how
@@ -367,9 +383,9 @@ fn check_row(row: &[Expected]) {
 fn any<'a>(lines: [&'a str; 3]) -> [Expected<'a>; 3] {
     let [good, kind_2, bad] = lines;
     [
-        (b'I', item(1, 1, b"example.com"), good),
-        (b'I', item(2, 1, b"example.com"), kind_2),
-        (b'I', item(1, 1, b"a..b"), bad),
+        (add(1, 1, b"example.com"), good),
+        (add(2, 1, b"example.com"), kind_2),
+        (add(1, 1, b"a..b"), bad),
     ]
 }
 
@@ -378,86 +394,87 @@ const LATE: &str = "add refused 17 at 0";
 /// Readings 141 to 143.
 #[test]
 fn added_in_time_and_too_late() {
-    let asked = b"\x12_dmarc.example.com";
-    let record = b"TX\0\x22\x21v=DMARC1; p=reject;adkim=s;aspf=s";
-    let answer = [b"\0\x10\0".as_slice(), asked, record].concat();
+    let answer = Call::Answer(AnswerCall {
+        status: Status::Records,
+        scratch: 4096,
+        name: b"_dmarc.example.com".to_vec(),
+        bytes: b"TX\0\x22\x21v=DMARC1; p=reject;adkim=s;aspf=s".to_vec(),
+    });
     let own = verdict(1, "pass reject none", "example.com", "nan");
     let [result, next] = ["result", "next"].map(|call| format!("{call} verdict {own}"));
     let late = || any([LATE; 3]);
     let mut row = vec![
-        (b'O', item(1, 1, b"example.com"), "open accepted"),
-        (b'R', vec![], "result refused 7 at 0"),
-        (b'I', item(1, 1, b"a.example"), "add accepted"),
-        (b'F', vec![0, 64], "field refused 7 at 0 out=0:6232:"),
-        (b'I', item(0, 1, b"Example.com."), "add accepted"),
-        (b'D', vec![], "finding refused 7 at 0"),
-        (b'I', item(0, 0, b"b.example"), "add refused 4 at 2"),
-        (b'I', item(0, 3, b"b.example"), "add refused 3 at 2"),
-        (b'I', item(1, 1, b"a..b"), "add refused 2 at 2"),
-        (
-            b'A',
-            answer.clone(),
-            "answer refused 5 at 0 scratch=0:29025",
-        ),
-        (b'O', item(1, 1, b"a..b"), "open refused 1 at 2"),
-        (b'I', item(1, 1, b"mail.example.com"), "add accepted"),
-        (b'I', item(2, 2, b""), "add refused 3 at 3"),
-        (b'N', vec![], "next ask _dmarc.example.com"),
+        (open(1, 1, b"example.com"), "open accepted"),
+        (Call::Result, "result refused 7 at 0"),
+        (add(1, 1, b"a.example"), "add accepted"),
+        (Call::Field { size: 64 }, "field refused 7 at 0 out=0:6232:"),
+        (add(0, 1, b"Example.com."), "add accepted"),
+        (Call::Finding, "finding refused 7 at 0"),
+        (add(0, 0, b"b.example"), "add refused 4 at 2"),
+        (add(0, 3, b"b.example"), "add refused 3 at 2"),
+        (add(1, 1, b"a..b"), "add refused 2 at 2"),
+        (answer.clone(), "answer refused 5 at 0 scratch=0:29025"),
+        (open(1, 1, b"a..b"), "open refused 1 at 2"),
+        (add(1, 1, b"mail.example.com"), "add accepted"),
+        (add(2, 2, b""), "add refused 3 at 3"),
+        (Call::Next, "next ask _dmarc.example.com"),
     ];
     row.extend(late());
     row.extend([
-        (b'O', item(1, 1, b".."), "open refused 1 at 0"),
-        (b'I', item(1, 1, b"a.example"), LATE),
-        (b'N', vec![], "next ask _dmarc.example.com"),
-        (b'I', item(0, 1, b"a.example"), LATE),
-        (b'A', answer, "answer accepted scratch=33:3583"),
+        (open(1, 1, b".."), "open refused 1 at 0"),
+        (add(1, 1, b"a.example"), LATE),
+        (Call::Next, "next ask _dmarc.example.com"),
+        (add(0, 1, b"a.example"), LATE),
+        (answer, "answer accepted scratch=33:3583"),
     ]);
     row.extend(late());
-    row.push((b'R', vec![], &result));
+    row.push((Call::Result, &result));
     row.extend(late());
-    row.push((b'N', vec![], &next));
+    row.push((Call::Next, &next));
     row.extend(late());
     let field = "field wrote 26 out=26:11657:\
                  4964656e746974792d416c69676e6d656e743a20646b696d0d0a";
-    row.push((b'F', vec![0, 64], field));
+    row.push((Call::Field { size: 64 }, field));
     check_row(&row);
 }
 
 /// Reading 142, and an opening over a running evaluation.
 #[test]
 fn opened_over_a_running_evaluation() {
-    let spf = || item(0, 1, b"example.com");
+    let spf = || add(0, 1, b"example.com");
+    let late = Call::Answer(AnswerCall::none(b"_dmarc.example.org"));
     let row = [
-        (b'O', item(1, 1, b"example.com"), "open accepted"),
-        (b'I', spf(), "add accepted"),
-        (b'I', item(1, 1, b"a.example"), "add accepted"),
-        (b'O', item(1, 1, b"example.org"), "open accepted"),
-        (b'I', spf(), "add accepted"),
-        (b'I', spf(), "add refused 4 at 1"),
-        (b'N', vec![], "next ask _dmarc.example.org"),
-        (b'O', item(1, 1, b"example.net"), "open accepted"),
-        (b'I', item(2, 1, b"a.example"), "add refused 3 at 0"),
-        (b'I', spf(), "add accepted"),
-        (b'N', vec![], "next ask _dmarc.example.net"),
-        (b'I', spf(), LATE),
+        (open(1, 1, b"example.com"), "open accepted"),
+        (spf(), "add accepted"),
+        (add(1, 1, b"a.example"), "add accepted"),
+        (open(1, 1, b"example.org"), "open accepted"),
+        (spf(), "add accepted"),
+        (spf(), "add refused 4 at 1"),
+        (Call::Next, "next ask _dmarc.example.org"),
+        (open(1, 1, b"example.net"), "open accepted"),
+        (late, "answer refused 5 at 0 scratch=0:29025"),
+        (add(2, 1, b"a.example"), "add refused 3 at 0"),
+        (spf(), "add accepted"),
+        (Call::Next, "next ask _dmarc.example.net"),
+        (spf(), LATE),
     ];
     check_row(&row);
 }
 
 #[test]
 fn a_17th_identifier() {
-    let mut row = vec![(b'O', item(1, 1, b"example.com"), "open accepted")];
+    let mut row = vec![(open(1, 1, b"example.com"), "open accepted")];
     for number in 0..16 {
         let domain = format!("d{number}.example");
-        row.push((b'I', item(1, 0, domain.as_bytes()), "add accepted"));
+        row.push((add(1, 0, domain.as_bytes()), "add accepted"));
     }
     row.extend(any([
         "add refused 4 at 16",
         "add refused 3 at 16",
         "add refused 4 at 16",
     ]));
-    row.push((b'I', item(0, 1, b"example.com"), "add refused 4 at 16"));
-    row.push((b'N', vec![], "next ask _dmarc.example.com"));
+    row.push((add(0, 1, b"example.com"), "add refused 4 at 16"));
+    row.push((Call::Next, "next ask _dmarc.example.com"));
     row.extend(any([LATE; 3]));
     check_row(&row);
 }
@@ -467,10 +484,12 @@ fn a_17th_identifier() {
 #[test]
 fn authors_over_253_octets() {
     let mut said = BTreeMap::new();
-    for (kind, body, line) in calls() {
-        if kind == b'O' && body.len() > 255 {
-            let author = &body[2..];
-            let expected = match author {
+    for (call, line) in fixed() {
+        let Call::Open(OpenCall { author, .. }) = call else {
+            continue;
+        };
+        if author.len() > 253 {
+            let expected = match author.as_slice() {
                 _ if author.contains(&b' ') && author.len() == 303 => "open refused 1 at 300",
                 _ if author.contains(&b' ') => "open refused 1 at 252",
                 [.., b'.', b'.'] => "open refused 1 at 254",
@@ -487,11 +506,11 @@ fn authors_over_253_octets() {
 /// Readings 134 and 136.
 #[test]
 fn final_dots() {
-    let calls = calls();
+    let calls = fixed();
     let identifiers = [
-        item(0, 1, b"example.com"),
-        item(1, 1, b"mail.example.com."),
-        item(1, 1, b"Mail.Example.com"),
+        add(0, 1, b"example.com"),
+        add(1, 1, b"mail.example.com."),
+        add(1, 1, b"Mail.Example.com"),
     ];
     let given = message(1, 1, b"Example.com.", &identifiers);
     let names = ["example.com", "com", "mail.example.com"];
@@ -505,15 +524,14 @@ fn final_dots() {
 fn final_dots_of_answers() {
     let (mut one, mut two) = (0, 0);
     let mut asked = String::new();
-    for (kind, body, line) in calls() {
+    for (call, line) in fixed() {
         if let Some(name) = line.strip_prefix("next ask ") {
             asked = name.to_string();
         }
-        if kind != b'A' {
+        let Call::Answer(given) = call else {
             continue;
-        }
-        let name = String::from_utf8_lossy(&body[4..4 + usize::from(body[3])]);
-        let name = name.to_ascii_lowercase();
+        };
+        let name = String::from_utf8_lossy(&given.name).to_ascii_lowercase();
         if name == format!("{asked}.") && line.starts_with("answer accepted ") {
             one += 1;
         }
@@ -527,8 +545,8 @@ fn final_dots_of_answers() {
 
 #[test]
 fn nothing_opened() {
-    let calls = calls();
-    let lines: Vec<&str> = calls.iter().map(|call| call.2.as_str()).take(7).collect();
+    let calls = fixed();
+    let lines: Vec<&str> = calls.iter().map(|made| made.1.as_str()).take(7).collect();
     // An untouched memory of n octets has the sum 255 n (n + 1) / 2, less a
     // multiple of 65,521: 6,232 for 64 and 29,025 for 4,096.
     let expected = [
@@ -542,23 +560,24 @@ fn nothing_opened() {
     ];
     assert_eq!(lines, expected);
     // Whatever is added comes before an opening; with a refused one, and again.
-    let opened = calls.iter().position(|call| call.2 == "open accepted");
+    let opened = calls.iter().position(|made| made.1 == "open accepted");
     let (before, _) = calls.split_at(opened.expect("an accepted opening"));
-    let added: Vec<&Call> = before.iter().filter(|call| call.0 == b'I').collect();
-    assert!(added.iter().all(|call| call.2 == "add refused 17 at 0"));
+    let added = before.iter().filter(|made| matches!(made.0, Call::Add(_)));
+    let added: Vec<&Made> = added.collect();
+    assert!(added.iter().all(|made| made.1 == "add refused 17 at 0"));
     for given in [
-        item(1, 1, b"mail.example.com"),
-        item(255, 255, b"a..b"),
-        item(0, 1, b"a..b"),
+        add(1, 1, b"mail.example.com"),
+        add(255, 255, b"a..b"),
+        add(0, 1, b"a..b"),
     ] {
-        assert_eq!(added.iter().filter(|call| call.1 == given).count(), 2);
+        assert_eq!(added.iter().filter(|made| made.0 == given).count(), 2);
     }
 }
 
 /// How many calls there are of each kind and with each first word or refusal.
-fn endings(calls: &[Call]) -> BTreeMap<String, usize> {
+fn endings(calls: &[Made]) -> BTreeMap<String, usize> {
     let mut counts = BTreeMap::new();
-    for (_, _, line) in calls {
+    for (_, line) in calls {
         let words: Vec<&str> = line.split(' ').collect();
         let key = match words.as_slice() {
             [call, "refused", number, ..] => format!("{call} {number}"),
@@ -571,7 +590,7 @@ fn endings(calls: &[Call]) -> BTreeMap<String, usize> {
 }
 
 /// Checks that calls end in these ways and no others, each so often at least.
-pub fn check_endings(calls: &[Call], least: &[(&str, usize)]) {
+pub fn check_endings(calls: &[Made], least: &[(&str, usize)]) {
     let counts = endings(calls);
     let keys: Vec<&str> = counts.keys().map(String::as_str).collect();
     let wanted: Vec<&str> = least.iter().map(|(key, _)| *key).collect();
@@ -613,7 +632,7 @@ fn every_refusal_of_every_call() {
         ("result 7", 50),
         ("result verdict", 200),
     ];
-    check_endings(&calls(), &least);
+    check_endings(&fixed(), &least);
 }
 
 /// What would be entered is asked for at an opening, at an asked name, between two
@@ -621,13 +640,12 @@ fn every_refusal_of_every_call() {
 /// there exactly at the verdict.
 #[test]
 fn findings_come_everywhere() {
-    let calls = calls();
+    let calls = fixed();
     let mut places: BTreeMap<(&str, bool), usize> = BTreeMap::new();
     for pair in calls.windows(2) {
-        let [(_, _, before), (b'D', body, line)] = pair else {
+        let [(_, before), (Call::Finding, line)] = pair else {
             continue;
         };
-        assert!(body.is_empty());
         let given = line != "finding refused 7 at 0";
         let kinds = [
             "open accepted",
@@ -655,12 +673,13 @@ fn findings_come_everywhere() {
 
 /// Checks the lent memory of calls: no short scratch is accepted, and what a
 /// refused call was lent is unchanged.
-pub fn check_lent(calls: &[Call]) {
-    for (kind, body, line) in calls {
-        if *kind == b'A' && line.starts_with("answer accepted") {
-            assert!(256 * usize::from(body[1]) + usize::from(body[2]) >= 4096);
+pub fn check_lent(calls: &[Made]) {
+    for (call, line) in calls {
+        let lent = matches!(call, Call::Answer(_) | Call::Field { .. });
+        if line.starts_with("answer accepted") {
+            assert!(call.lent() >= 4096, "{call}");
         }
-        if line.contains(" refused ") && (*kind == b'A' || *kind == b'F') {
+        if line.contains(" refused ") && lent {
             assert!(line.contains("=0:"), "{line}");
         }
     }
@@ -668,16 +687,16 @@ pub fn check_lent(calls: &[Call]) {
 
 #[test]
 fn lent_memory() {
-    check_lent(&calls());
+    check_lent(&fixed());
 }
 
 /// Checks the calls that add, by the lines alone: 17 at 0 exactly where nothing
 /// was opened or a next step was taken, 2 to 4 at the number of identifiers that
 /// were accepted, and as many alignments of a verdict.
-pub fn check_adds(calls: &[Call]) {
+pub fn check_adds(calls: &[Made]) {
     let mut accepted = None;
     let mut asked = false;
-    for (kind, _, line) in calls {
+    for (call, line) in calls {
         let words: Vec<&str> = line.split(' ').collect();
         match words.as_slice() {
             ["open", "accepted"] => (accepted, asked) = (Some(0), false),
@@ -695,17 +714,17 @@ pub fn check_adds(calls: &[Call]) {
                 assert_eq!(*place, index.to_string());
             }
             (["add", "refused", "17", "at", "0"], None) => {}
-            _ => assert_ne!(*kind, b'I', "{line}"),
+            _ => assert!(!matches!(call, Call::Add(_)), "{line}"),
         }
     }
 }
 
 /// Checks that identifiers are accepted right after these refused calls, and that
 /// openings come right after these calls, each so often at least.
-pub fn check_neighbours(calls: &[Call], least: usize) {
+pub fn check_neighbours(calls: &[Made], least: usize) {
     let follows = |before: &str, after: &str| {
         let pairs = calls.windows(2);
-        let found = pairs.filter(|pair| pair[0].2.starts_with(before) && pair[1].2 == after);
+        let found = pairs.filter(|pair| pair[0].1.starts_with(before) && pair[1].1 == after);
         let count = found.count();
         assert!(count >= least, "{count} of {before}, {after}");
     };
@@ -719,24 +738,12 @@ pub fn check_neighbours(calls: &[Call], least: usize) {
 
 #[test]
 fn identifiers() {
-    let calls = calls();
+    let calls = fixed();
     check_adds(&calls);
     check_neighbours(&calls, 1);
 }
 
 #[test]
-fn the_size_of_the_files() {
-    let octets = files().expect("calls that fit their lengths").cases.len();
-    assert!(octets <= 150_000, "{octets}");
-}
-
-#[test]
-fn the_same_files_each_time() {
-    assert!(files() == files());
-}
-
-/// The program that makes the calls by the proved code has them beside it.
-#[test]
-fn the_stored_files_are_these() {
-    check_stored("calls", files());
+fn the_same_calls_each_time() {
+    assert!(calls::fixed() == calls::fixed());
 }

@@ -82,11 +82,12 @@ fn quoted_texts() {
     assert_eq!(with(r#""""#), Ok(sheet(&tx(&[b""]))));
     let escapes = r#""a\"b\\c\x00\xfF;""#;
     assert_eq!(with(escapes), Ok(sheet(&tx(&[b"a\"b\\c\0\xff;"]))));
-    let two = [tx(&[b"a"]), tx(&[b"b"])].concat();
-    assert_eq!(with(r#""a" "b""#), Ok(sheet(&two)));
+    assert_eq!(with(r#""a" "b""#), Ok(sheet(&tx(&[b"a", b"b"]))));
     assert_eq!(with(r#""a" + "b""#), Ok(sheet(&tx(&[b"a", b"b"]))));
+    assert_eq!(with(r#""a" + "" "b""#), Ok(sheet(&tx(&[b"a", b"", b"b"]))));
+    assert_eq!(with(r#""a""b""#), Ok(sheet(&tx(&[b"a", b"b"]))));
     let three = [tx(&[b"a", b""]), tx(&[b"b"])].concat();
-    assert_eq!(with(r#""a" + "" "b""#), Ok(sheet(&three)));
+    assert_eq!(with("\"a\" \"\"\nanswer a \"b\""), Ok(sheet(&three)));
     let long = "x".repeat(600);
     let cut: [&[u8]; 3] = [&[b'x'; 255], &[b'x'; 255], &[b'x'; 90]];
     assert_eq!(with(&format!("\"{long}\"")), Ok(sheet(&tx(&cut))));
@@ -104,15 +105,18 @@ fn quoted_texts() {
     }
 }
 
+const DIGITS: &str = "digits after a `\\` are three, from \\000 to \\255";
 const ANSWER_FORMS: &str = "an answer is none, error, quoted texts, or hex and its digits";
+const IDENTIFIER_FORM: &str =
+    "an identifier takes an outcome and a domain, as in: dkim pass example.com";
 const ITEMS: &str = "a line begins with author, spf, dkim, id, answer or sheet";
 
 /// Lines that are in error after an author line and an empty one, with what is
 /// wrong.
 const BAD_LINES: &[(&str, &str)] = &[
-    ("spf pass", "an identifier takes an outcome and a domain"),
-    ("dkim", "an identifier takes an outcome and a domain"),
-    ("spf none b", "the outcome is one of fail, pass, temperror"),
+    ("spf pass", IDENTIFIER_FORM),
+    ("dkim", IDENTIFIER_FORM),
+    ("spf none b", "the outcome is one of fail, pass, temperror; softfail, neutral, none and permerror are fail"),
     ("dkim pass \"b\"", "a domain is not quoted"),
     ("dkim pass hex:0g", "not a hex digit"),
     ("id kind=1 b", "id takes a kind, an outcome and a domain"),
@@ -132,30 +136,51 @@ const BAD_LINES: &[(&str, &str)] = &[
     ("answer b + \"a\"", ANSWER_FORMS),
     ("answer b \"a\" + + \"b\"", ANSWER_FORMS),
     ("answer b \"open", "a quoted text is not closed"),
-    ("answer b \"\\q\"", "the escapes are \\\", \\\\ and \\xHH"),
-    ("answer b \"\\xg0\"", "not a hex digit"),
+    ("answer b \"\\25\"", DIGITS),
+    ("answer b \"\\256\"", DIGITS),
+    ("answer b \"\\2x5\"", DIGITS),
+    (
+        "answer b \"\\\t\"",
+        "a `\\` stands before no printing octet",
+    ),
     ("answer b hex 545", "an odd number of hex digits"),
     ("answer b hex \"54\"", "a quoted text after `hex`"),
-    ("answer a..b none", "the name breaks the domain rule"),
-    ("answer . none", "the name breaks the domain rule"),
-    ("answer a.. none", "the name breaks the domain rule"),
-    ("answer hex: none", "the name breaks the domain rule"),
-    ("answer hex:6120 none", "the name breaks the domain rule"),
+    (
+        "answer a..b none",
+        "the name breaks the domain rule: `a..b` has a dot too many",
+    ),
+    (
+        "answer . none",
+        "the name breaks the domain rule: it is empty",
+    ),
+    (
+        "answer a.. none",
+        "the name breaks the domain rule: `a.` has a dot too many",
+    ),
+    (
+        "answer hex: none",
+        "the name breaks the domain rule: it is empty",
+    ),
+    (
+        "answer hex:6120 none",
+        "the name breaks the domain rule: a blank may not stand in `a `; a domain has letters, \
+         digits, `-` and `_`, labels parted by single dots",
+    ),
     ("author b exists supported", "a second author line"),
     ("sheet hex 00", "`sheet` stands alone in a description"),
     (
         "\"author\" a",
-        "an item begins with a word, not with a quoted text",
+        "a line does not begin with a quoted text; put `answer` and the asked name before it",
     ),
 ];
 
+const NO_AUTHOR: &str = "line 1: the description has no author line, \
+     such as: author example.com exists supported";
+
 /// Whole descriptions that are in error.
 const BAD_DESCRIPTIONS: &[(&str, &str)] = &[
-    ("", "line 1: the description has no author line"),
-    (
-        "# nothing\n\n",
-        "line 1: the description has no author line",
-    ),
+    ("", NO_AUTHOR),
+    ("# nothing\n\n", NO_AUTHOR),
     ("spf pass b", "line 1: the author line comes first"),
     (
         "\nspf pass b\nauthor a exists supported",
@@ -163,7 +188,8 @@ const BAD_DESCRIPTIONS: &[(&str, &str)] = &[
     ),
     (
         "\nauthor a exists\n",
-        "line 2: author takes a domain, its existence and whether rejecting is supported",
+        "line 2: author takes a domain, its existence and whether rejecting is supported, \
+         as in: author example.com exists supported",
     ),
     (
         "author a here supported",
@@ -231,9 +257,9 @@ fn parts_that_are_too_long() {
     let text = format!("{author}answer b \"{}\"", "x".repeat(65_536));
     let error = Err("line 2: a record is over 65535 octets".to_string());
     assert_eq!(made(&text), error);
-    let texts = format!(" \"{}\"", "x".repeat(40_000)).repeat(2);
-    let error = Err("line 2: longer than the 65535 octets of a sheet record".to_string());
-    assert_eq!(made(&format!("{author}answer b{texts}")), error);
+    let texts = format!("answer b \"{}\"\n", "x".repeat(40_000)).repeat(2);
+    let error = Err("line 3: longer than the 65535 octets of a sheet record".to_string());
+    assert_eq!(made(&format!("{author}{texts}")), error);
     let answers = |name: &str| format!("answer {name} \"{}\"\n", "x".repeat(40_000));
     let sheet = format!("{author}{}{}", answers("b"), answers("c"));
     let error = Err("line 3: the sheet is over 65536 octets".to_string());

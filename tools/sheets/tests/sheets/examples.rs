@@ -21,7 +21,10 @@ fn file_of(row: &str) -> String {
 #[test]
 fn exactly_the_files_of_the_marked_sheets() {
     let entries = std::fs::read_dir(folder()).expect("the folder");
-    let files = entries.map(|entry| entry.expect("an entry").file_name());
+    let entries = entries.map(|entry| entry.expect("an entry"));
+    let files = entries
+        .filter(|entry| entry.path().is_file())
+        .map(|entry| entry.file_name());
     let found: BTreeSet<String> = files
         .map(|name| name.to_string_lossy().into_owned())
         .collect();

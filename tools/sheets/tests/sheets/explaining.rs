@@ -5,15 +5,16 @@ use sheets::description::make;
 use sheets::examples::MARKED;
 use sheets::explain::explain;
 use sheets::generate::{hostile, ordinary};
+use sheets::handed::Handed;
 use sheets::programs::messages::messages;
 
-fn sheet(description: &str) -> Vec<u8> {
+pub fn sheet(description: &str) -> Vec<u8> {
     make(description.as_bytes()).expect("a sheet")
 }
 
 /// The explanation's lines below its head.
-fn lines(sheet: &[u8]) -> Vec<String> {
-    let text = explain(sheet);
+pub fn lines(sheet: &[u8]) -> Vec<String> {
+    let text = explain(&Handed::sheet_of("a", sheet));
     let body = text.strip_prefix("-- why\n").expect("the head line");
     assert!(body.ends_with('\n'));
     body.lines().map(String::from).collect()
@@ -86,11 +87,13 @@ const MARKED_LINES: &[(&str, &str)] = &[
     ),
     (
         "5",
-        "policy record: not known; the author's walk ended in an error at example.com",
+        "policy record: not known; the author's walk ended in an error at example.com \
+         (its lookup failed)",
     ),
     (
         "5",
-        "author's organizational domain: not known; the walk ended in an error at example.com",
+        "author's organizational domain: not known; the walk ended in an error at example.com \
+         (its lookup failed)",
     ),
     (
         "5",
@@ -116,11 +119,19 @@ const MARKED_LINES: &[(&str, &str)] = &[
          t=y drops it one step",
     ),
     ("11", "result none: no policy record applies"),
-    ("12", "  not usable, and rua has no valid entry"),
+    (
+        "12",
+        "  not usable, since p is invalid; rua has no valid entry, so the result is permerror",
+    ),
+    (
+        "12",
+        "  p: invalid, since \"often\" is not one of none, quarantine, reject",
+    ),
     ("12", "result permerror: the policy record is not usable"),
     (
         "12, with rua",
-        "  not usable; its policies read as none, since rua has a valid entry",
+        "  not usable, since p is invalid; \
+         rua has a valid entry, so all three policies read as none",
     ),
     ("12, with rua", "policy none: read as none"),
 ];
@@ -156,14 +167,14 @@ fn every_other_reason_of_an_alignment() {
         "  not aligned: its outcome is not pass",
         "  not aligned: its outcome is a temporary error",
         "  not aligned: its organizational domain is other.org, the author's is news.example.com",
-        "  unknown: its walk ended in an error at broken.test",
+        "  unknown: its walk ended in an error at broken.test (no answer is given for it)",
     ];
     assert_eq!(
         alignment_lines(&sheet(&format!("{FIVE}{own}{walked}"))),
         expected
     );
-    let at_author =
-        "  unknown: not walked, since the author's walk ended in an error at example.com";
+    let at_author = "  unknown: not walked, since the author's walk ended in an error \
+                     at example.com (no answer is given for it)";
     let stopped = alignment_lines(&sheet(&format!("{FIVE}{own}")));
     assert_eq!(stopped[2..], [at_author, at_author]);
     let unknown = alignment_lines(&sheet(FIVE));
@@ -194,7 +205,9 @@ fn texts_with_a_tag_twice() {
     let told = lines(&sheet(
         r#"author example.com exists supported
         dkim pass mail.other.test
-        answer _dmarc.example.com "v=DMARC1; p=none; P=reject" "v=DMARC1; p=reject" "p=none; p=none"
+        answer _dmarc.example.com "v=DMARC1; p=none; P=reject"
+        answer _dmarc.example.com "v=DMARC1; p=reject"
+        answer _dmarc.example.com "p=none; p=none"
         answer _dmarc.com "v=DMARC1; sp=; sp=none"
         answer _dmarc.mail.other.test "V=DMARC1;fo=1;p=none;v=DMARC1;fo=1"
         answer _dmarc.other.test none
@@ -204,20 +217,26 @@ fn texts_with_a_tag_twice() {
     let expected = [
         "policy record: at example.com, the author domain's own",
         "  text: \"v=DMARC1; p=reject\"",
-        "a text at example.com: tag p written twice, so no policy record",
+        "a text at example.com is no policy record: tag p is written twice",
         "  text: \"v=DMARC1; p=none; P=reject\"",
-        "a text at mail.other.test: tag v written twice, so no policy record",
+        "a text at example.com is no policy record: its first part is \"p=none\", \
+         and not v=DMARC1: it does not begin with v",
+        "  text: \"p=none; p=none\"",
+        "also met: the record at com",
+        "  text: \"v=DMARC1; sp=; sp=none\"",
+        "  ignored: \"sp=\", since it has no value",
+        "a text at mail.other.test is no policy record: tag v is written twice",
         "  text: \"V=DMARC1;fo=1;p=none;v=DMARC1;fo=1\"",
         "author's organizational domain: com",
     ];
-    assert_eq!(told[1..8], expected);
+    assert_eq!(told[1..13], expected);
     let alone = lines(&sheet(
         r#"author com exists supported
         answer _dmarc.com "v=DMARC1; rua=a:b; x=1; Rua=a:b""#,
     ));
     let expected = [
         "policy record: none; the author's walk found no record that applies",
-        "a text at com: tag rua written twice, so no policy record",
+        "a text at com is no policy record: tag rua is written twice",
     ];
     assert_eq!(alone[1..3], expected);
 }
@@ -230,6 +249,8 @@ fn refusals() {
             "refused 1: the author domain breaks the domain rule",
             "at 3: the octet of the domain where its first bad label begins; \
              0 if it is empty, 253 if only its length is wrong; a final dot does not count",
+            "octet 0: the author domain breaks the rule: a blank may not stand in \
+             `ok.a b.com`; a domain has letters, digits, `-` and `_`, labels parted by single dots",
         ]
     );
     assert_eq!(
@@ -238,6 +259,7 @@ fn refusals() {
             "refused 8: the sheet is broken, or answers one name twice",
             "at 0: the octet where the broken record or the second answer begins; \
              65536 if the sheet is too long",
+            "octet 0: the sheet is empty",
         ]
     );
 }

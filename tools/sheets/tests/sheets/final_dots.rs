@@ -4,7 +4,7 @@ use crate::octets::{an, au, id, run};
 use evaluator::domain::without_dot;
 use evaluator::sheet::{read, Sheet};
 use sheets::generate::ordinary;
-use sheets::programs::cases::status_number;
+use sheets::written::status_number;
 
 const SEED: u64 = 5;
 

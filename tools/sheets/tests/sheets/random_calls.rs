@@ -3,27 +3,31 @@
 
 use std::collections::BTreeSet;
 
-use crate::calls::{check_adds, check_endings, check_lent, check_neighbours};
-use crate::program::output;
-use crate::stored::{cases, Case as Call};
-use sheets::programs::calls::random_files;
+use crate::calls::{check_adds, check_endings, check_lent, check_neighbours, made, Made};
+use sheets::programs::calls::{random, Call};
 
-const MESSAGES: u64 = 700;
+const MESSAGES: usize = 700;
 const SEED: u64 = 41;
 
-fn calls() -> Vec<Call> {
-    cases(random_files(MESSAGES, SEED))
+/// The calls of so many messages of a seed.
+fn messages(count: usize, seed: u64) -> Vec<Vec<Call>> {
+    let messages: Vec<Vec<Call>> = random(seed).take(count).collect();
+    assert_eq!(messages.len(), count);
+    messages
+}
+
+fn calls() -> Vec<Made> {
+    made(messages(MESSAGES, SEED).concat())
 }
 
 #[test]
-fn the_same_seed_gives_the_same_files() {
-    let first = random_files(40, 3);
-    assert!(first == random_files(40, 3));
-    assert!(first != random_files(40, 4));
+fn the_same_seed_gives_the_same_calls() {
+    let first = messages(40, 3);
+    assert!(first == messages(40, 3));
+    assert!(first != messages(40, 4));
     // Fewer messages of a seed are the first of more.
-    let (first, fewer) = (first.expect("files"), random_files(20, 3).expect("files"));
-    assert!(first.cases.starts_with(&fewer.cases));
-    assert!(first.expected.starts_with(&fewer.expected));
+    assert!(first.starts_with(&messages(20, 3)));
+    assert!(first.iter().all(|calls| !calls.is_empty()));
 }
 
 #[test]
@@ -66,7 +70,7 @@ fn verdicts_of_each_result_by_both_calls() {
     for result in ["none", "pass", "fail", "temperror", "permerror"] {
         for call in ["next", "result"] {
             let begin = format!("{call} verdict {result} ");
-            let found = calls.iter().filter(|call| call.2.starts_with(&begin));
+            let found = calls.iter().filter(|made| made.1.starts_with(&begin));
             assert!(found.count() >= 20, "{begin}");
         }
     }
@@ -93,9 +97,9 @@ struct Run<'a> {
 
 /// The runs in order. Each name is asked once, and given again only before its
 /// answer; a verdict's count is the number of names.
-fn runs(calls: &[Call]) -> Vec<Run<'_>> {
+fn runs(calls: &[Made]) -> Vec<Run<'_>> {
     let mut runs: Vec<Run> = Vec::new();
-    for (_, _, line) in calls {
+    for (_, line) in calls {
         if line == "open accepted" {
             runs.push(Run::default());
         }
@@ -140,40 +144,21 @@ fn answers_of_the_last_message() {
     let calls = calls();
     let (mut asked, mut late) = (None, 0);
     for pair in calls.windows(2) {
-        let [(_, _, before), (kind, body, line)] = pair else {
+        let [(_, before), (call, line)] = pair else {
             continue;
         };
         if let Some(name) = before.strip_prefix("next ask ") {
             asked = Some(name);
         }
-        if *kind == b'A' && before == "open accepted" {
+        let Call::Answer(given) = call else {
+            continue;
+        };
+        if before == "open accepted" {
             assert!(line.starts_with("answer refused 5 at 0 "), "{line}");
-            let name = &body[4..4 + usize::from(body[3])];
+            let name = given.name.as_slice();
             let own = asked.is_some_and(|asked| asked.as_bytes().eq_ignore_ascii_case(name));
             late += usize::from(own);
         }
     }
     assert!(late > 0);
-}
-
-#[test]
-fn the_files_that_the_command_writes() {
-    let dir = std::env::temp_dir().join(format!("dmarc-tools-calls-{}", std::process::id()));
-    let path = dir.to_str().expect("a path in UTF-8");
-    let program = env!("CARGO_BIN_EXE_dmarc-tools");
-    let written = output(program, &["calls", path, "5", "8"], b"");
-    assert_eq!(written.status.code(), Some(0));
-    let stored = |name: &str| std::fs::read(dir.join(name)).expect("a written file");
-    let files = random_files(5, 8).expect("files");
-    assert!(stored("stdin") == files.cases && stored("stdout") == files.expected);
-    // How many calls there are of each kind.
-    let printed = String::from_utf8(written.stdout).expect("lines in UTF-8");
-    let count = |line: &str| line.get(2..)?.parse().ok();
-    let counts: Option<Vec<usize>> = printed.lines().map(count).collect();
-    let counts = counts.expect("a number on each line");
-    assert!(!counts.contains(&0), "{printed}");
-    assert_eq!(counts.iter().sum::<usize>(), files.kinds.len());
-    std::fs::remove_dir_all(&dir).expect("the files go away");
-    let refused = output(program, &["calls", path, "many", "8"], b"");
-    assert_eq!(refused.stderr, b"COUNT is a number\n");
 }

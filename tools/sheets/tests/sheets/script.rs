@@ -18,6 +18,9 @@ fn help() {
     let said = String::from_utf8_lossy(&help.stdout).into_owned();
     for option in [
         "--explain FILE",
+        "--json FILE",
+        "--next FILE",
+        "--status FILE",
         "--sheet FILE",
         "--write TAG=VALUE...",
         "--read TEXT",

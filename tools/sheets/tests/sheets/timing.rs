@@ -1,28 +1,36 @@
 //! The messages for measuring time: how many names each asks.
 
-use crate::stored::{bodies, check_both};
-use sheets::programs::timing::{file, IDENTIFIERS, WALKS};
+use evaluator::txt::Status;
+use sheets::programs::calls::{lines, Call};
+use sheets::programs::timing::{message, IDENTIFIERS, WALKS};
 
 #[test]
 fn every_walk_is_of_full_length() {
     for identifiers in IDENTIFIERS {
         for walk in WALKS {
-            let octets = file(7, identifiers, walk).expect("calls that fit their lengths");
-            let (count, calls) = octets.split_at(4);
-            assert_eq!(count, [0, 0, 0, 7]);
-            let kinds: Vec<u8> = bodies(calls).iter().map(|(kind, _)| *kind).collect();
+            let calls = message(identifiers, walk);
+            let words: Vec<&str> = calls.iter().map(Call::word).collect();
             let names = (identifiers + 1) * walk;
-            let added = b"I".repeat(identifiers);
-            let turns = b"NA".repeat(names);
-            assert_eq!(kinds, [b"O", &added[..], &turns, b"N"].concat());
+            let added = vec!["add"; identifiers];
+            let turns = ["next", "answer"].repeat(names);
+            assert_eq!(words, [vec!["open"], added, turns, vec!["next"]].concat());
+            let lines = lines(&calls);
+            assert!(!lines.iter().any(|line| line.contains("refused")));
+            let verdict = lines.last().expect("the verdict");
+            assert!(verdict.starts_with("next verdict fail policy=reject "));
+            assert!(verdict.ends_with(&format!(" count={names}")), "{verdict}");
         }
     }
 }
 
-/// The program that is measured has one of them beside it, to be run 3 times,
-/// and prints the sum of the counts: 3 times 136.
+/// The author's own name alone has a record.
 #[test]
-fn the_stored_files_are_these() {
-    let octets = file(3, 16, 8).expect("calls that fit their lengths");
-    check_both("timing", &octets, b"408\n");
+fn one_record() {
+    let calls = message(16, 8);
+    let records = calls.iter().filter_map(|call| match call {
+        Call::Answer(given) if given.status == Status::Records => Some(given.name.as_slice()),
+        _ => None,
+    });
+    let records: Vec<&[u8]> = records.collect();
+    assert_eq!(records, [b"_dmarc.a.b.c.d.e.f.g.top0".as_slice()]);
 }

@@ -1,29 +1,39 @@
 //! The test vectors: lines written by hand from document 01 and the readings,
-//! found by their cases in the octets that another program reads.
+//! found by their cases.
 
 use std::collections::BTreeMap;
 
 use crate::octets::tx;
-use crate::stored::{cases, check_stored, Case};
 use evaluator::domain::fault;
-use sheets::programs::vectors::files;
+use evaluator::txt::Status;
+use sheets::programs::vectors::{cases, line};
+use sheets::programs::vectors::{AnswerCase, Case, FieldCase, Method, NameCase};
 
-fn vectors() -> Vec<Case> {
-    cases(files())
+/// A case, and its line.
+type Vector = (Case, String);
+
+fn vectors() -> Vec<Vector> {
+    let with_line = |case: Case| {
+        let line = line(&case);
+        (case, line)
+    };
+    cases().into_iter().map(with_line).collect()
 }
 
 /// Checks the line of a case, which must be there.
-fn check(vectors: &[Case], kind: u8, body: &[u8], expected: &str) {
-    let case = vectors
-        .iter()
-        .find(|(own, octets, _)| *own == kind && octets == body);
-    let (_, _, line) = case.unwrap_or_else(|| panic!("no case {:?}", body.escape_ascii()));
-    assert_eq!(line, expected, "{}", body.escape_ascii());
+fn check(vectors: &[Vector], case: &Case, expected: &str) {
+    let found = vectors.iter().find(|(own, _)| own == case);
+    let (_, line) = found.unwrap_or_else(|| panic!("no case {case:?}"));
+    assert_eq!(line, expected, "{case:?}");
 }
 
-/// Status, scratch size of 16 bits, bytes.
-fn answer(status: u8, scratch: u16, bytes: &[u8]) -> Vec<u8> {
-    [&[status, (scratch >> 8) as u8, scratch as u8], bytes].concat()
+/// Status, scratch size, bytes.
+fn answer(status: Status, scratch: u16, bytes: &[u8]) -> Case {
+    Case::Answer(AnswerCase {
+        status,
+        scratch,
+        bytes: bytes.to_vec(),
+    })
 }
 
 /// The words of a record's settings: the defaults but for these.
@@ -98,7 +108,8 @@ fn policies(table: &[(&[u8], &str, &str)]) {
             "none" => "none".to_string(),
             changed => settings(changed),
         };
-        check(&vectors, b'P', text, &format!("policy {words} rua={rua}"));
+        let case = Case::Policy(text.to_vec());
+        check(&vectors, &case, &format!("policy {words} rua={rua}"));
     }
 }
 
@@ -142,7 +153,10 @@ fn one_tag_twice() {
 #[test]
 fn lists_of_names() {
     let mut seen = BTreeMap::new();
-    for (_, body, line) in vectors() {
+    for (case, line) in vectors() {
+        let Case::Policy(body) = case else {
+            continue;
+        };
         let Some(rest) = body.strip_prefix(b"v=DMARC1;a=1;b=1;c=1;".as_slice()) else {
             continue;
         };
@@ -172,44 +186,44 @@ fn answers() {
     let good: &[u8] = b"v=DMARC1; p=reject; t=y";
     let beside = |texts: &[&[u8]]| {
         let records = texts.iter().map(|text| tx(&[text]));
-        answer(0, 4096, &records.collect::<Vec<_>>().concat())
+        answer(Status::Records, 4096, &records.collect::<Vec<_>>().concat())
     };
     let sixteenth = [tx(&[b"v=DMARC1; p=none"]).repeat(15), b"TX\0\0".to_vec()].concat();
     // An untouched scratch of n octets has the sum 255 n (n + 1) / 2, less a
     // multiple of 65,521: 29,025 for 4,096 and 14,025 for 10.
-    let table: [(Vec<u8>, &str); 13] = [
+    let table: [(Case, &str); 13] = [
         // 22
-        (answer(2, 0, b""), "refused 10 at 4096 scratch=0:0:"),
-        (answer(2, 4096, b""), "error scratch=0:29025:"),
+        (answer(Status::Error, 0, b""), "refused 10 at 4096 scratch=0:0:"),
+        (answer(Status::Error, 4096, b""), "error scratch=0:29025:"),
         // 23
-        (answer(1, 4096, &[b'X'; 5000]), "none scratch=0:29025:"),
+        (answer(Status::None, 4096, &[b'X'; 5000]), "none scratch=0:29025:"),
         // 24
-        (answer(0, 10, b"TX"), "refused 6 at 0 scratch=0:14025:"),
+        (answer(Status::Records, 10, b"TX"), "refused 6 at 0 scratch=0:14025:"),
         (
-            answer(0, 4096, &sixteenth),
+            answer(Status::Records, 4096, &sixteenth),
             "refused 6 at 0 scratch=0:29025:",
         ),
         // 26
         (
-            answer(0, 4096, &tx(&[b"a"]).repeat(17)),
+            answer(Status::Records, 4096, &tx(&[b"a"]).repeat(17)),
             "refused 6 at 0 scratch=0:29025:",
         ),
         // 28
-        (answer(0, 4096, b""), "none scratch=0:29025:"),
+        (answer(Status::Records, 4096, b""), "none scratch=0:29025:"),
         // 29: `ab` takes away 158 and 2 times 157, and so on.
         (
-            answer(0, 4096, &two),
+            answer(Status::Records, 4096, &two),
             "record p=none sp=absent np=absent adkim=r aspf=r psd=u t=n reports=no \
              scratch=18:65295:6162763d444d415243313b20703d6e6f6e65",
         ),
         // 48
         (
-            answer(0, 4096, &identical),
+            answer(Status::Records, 4096, &identical),
             "none scratch=32:3424:763d444d415243313b20703d6e6f6e65763d444d415243313b20703d6e6f6e65",
         ),
         // 49
         (
-            answer(0, 4096, &tx(&[b"v=DMARC1"])),
+            answer(Status::Records, 4096, &tx(&[b"v=DMARC1"])),
             "record p=absent sp=absent np=absent adkim=r aspf=r psd=u t=n reports=no \
              scratch=8:22275:763d444d41524331",
         ),
@@ -229,36 +243,35 @@ fn answers() {
         ),
     ];
     let vectors = vectors();
-    for (body, line) in table {
-        check(&vectors, b'A', &body, &format!("answer {line}"));
+    for (case, line) in table {
+        check(&vectors, &case, &format!("answer {line}"));
     }
 }
 
 /// Document 01's example with this begin, id and output size.
-fn example(begin: u64, named: u8, id: &[u8], size: u16) -> Vec<u8> {
+fn example(begin: u64, named: u8, id: &[u8], size: u16) -> Case {
     name_case([b"gate.example", b"example.com"], begin, named, id, size)
 }
 
 /// Receiver and policy domain, then as in the example.
-fn name_case(domains: [&[u8]; 2], begin: u64, named: u8, id: &[u8], size: u16) -> Vec<u8> {
-    let mut body = Vec::new();
-    for domain in domains {
-        body.push(domain.len() as u8);
-        body.extend(domain);
-    }
-    body.extend(begin.to_be_bytes());
-    body.extend(1_700_086_399_u64.to_be_bytes());
-    body.extend([named, id.len() as u8]);
-    body.extend(id);
-    body.extend(size.to_be_bytes());
-    body
+fn name_case(domains: [&[u8]; 2], begin: u64, named: u8, id: &[u8], size: u16) -> Case {
+    let [receiver, policy_domain] = domains.map(<[u8]>::to_vec);
+    Case::FileName(NameCase {
+        receiver,
+        policy_domain,
+        begin,
+        end: 1_700_086_399,
+        named,
+        id: id.to_vec(),
+        size,
+    })
 }
 
 #[test]
 fn file_names() {
     let vectors = vectors();
     let begin = 1_700_000_000;
-    let table: [(Vec<u8>, &str); 5] = [
+    let table: [(Case, &str); 5] = [
         (
             example(begin, 1, b"r7", 53),
             "wrote 53 out=53:32096:gate.example!example.com!1700000000!1700086399!r7.xml",
@@ -275,8 +288,8 @@ fn file_names() {
         ),
         (example(begin, 1, b"", 0), "refused 11 at 0 out=0:0:"),
     ];
-    for (body, line) in table {
-        check(&vectors, b'F', &body, &format!("file {line}"));
+    for (case, line) in table {
+        check(&vectors, &case, &format!("file {line}"));
     }
 }
 
@@ -285,10 +298,9 @@ fn file_names() {
 fn file_names_with_final_dots() {
     let vectors = vectors();
     let line_of = |receiver: &[u8], policy_domain: &[u8]| {
-        let body = name_case([receiver, policy_domain], 1_700_000_000, 1, b"r7", 700);
-        let mut cases = vectors.iter();
-        let found = cases.find(|(kind, own, _)| *kind == b'F' && *own == body);
-        found.map(|(_, _, line)| line.clone()).expect("a case")
+        let case = name_case([receiver, policy_domain], 1_700_000_000, 1, b"r7", 700);
+        let found = vectors.iter().find(|(own, _)| *own == case);
+        found.map(|(_, line)| line.clone()).expect("a case")
     };
     let expected = line_of(b"gate.example", b"example.com");
     assert!(expected.ends_with(":gate.example!example.com!1700000000!1700086399!r7.xml"));
@@ -304,12 +316,25 @@ fn file_names_with_final_dots() {
     }
 }
 
+/// DKIM given and aligned, SPF given and aligned, each 0 or 1, and the size.
+fn field([dkim, dkim_aligned, spf, spf_aligned, size]: [u8; 5]) -> Case {
+    let method = |given, aligned| Method {
+        given: given == 1,
+        aligned: aligned == 1,
+    };
+    Case::Field(FieldCase {
+        dkim: method(dkim, dkim_aligned),
+        spf: method(spf, spf_aligned),
+        size,
+    })
+}
+
 #[test]
 fn fields() {
     let head = "4964656e746974792d416c69676e6d656e743a20";
     let written = |methods: &str| format!("{head}{methods}0d0a");
     let vectors = vectors();
-    let table: [([u8; 5], String); 6] = [
+    let table: [([u8; 5], String); 7] = [
         // 100: none 26, dkim 26, spf 25, both 31.
         (
             [1, 1, 1, 1, 26],
@@ -336,9 +361,11 @@ fn fields() {
             [0, 0, 1, 1, 26],
             format!("wrote 26 out=26:29630:{}", written("6e6f6e65")),
         ),
+        // No identifier was given: 9 before 10.
+        ([0, 0, 0, 0, 0], "refused 9 at 0 out=0:0:".to_string()),
     ];
-    for (body, line) in table {
-        check(&vectors, b'I', &body, &format!("field {line}"));
+    for (given, line) in table {
+        check(&vectors, &field(given), &format!("field {line}"));
     }
 }
 
@@ -374,22 +401,25 @@ fn labels() {
             "labels=13 rounds=36 begins=33,25,20,18,16,14,12,10",
         ),
     ];
-    for (body, line) in table {
-        check(&vectors, b'L', body, line);
+    for (domain, line) in table {
+        check(&vectors, &Case::Labels(domain.to_vec()), line);
     }
 }
 
-/// The labels of a case of kind `L`.
+/// The labels of a domain.
 fn split(body: &[u8]) -> Vec<&[u8]> {
     body.split(|octet| *octet == b'.').collect()
 }
 
-/// The domains of kind `L`, each of which keeps the rule.
+/// The domains whose labels are counted, each of which keeps the rule.
 fn counted_domains() -> Vec<(Vec<u8>, String)> {
-    let counted = vectors().into_iter().filter(|(kind, _, _)| *kind == b'L');
-    let domains: Vec<(Vec<u8>, String)> = counted.map(|(_, body, line)| (body, line)).collect();
-    for (body, _) in &domains {
-        assert_eq!(fault(body), None, "{}", body.escape_ascii());
+    let counted = vectors().into_iter().filter_map(|(case, line)| match case {
+        Case::Labels(domain) => Some((domain, line)),
+        _ => None,
+    });
+    let domains: Vec<(Vec<u8>, String)> = counted.collect();
+    for (domain, _) in &domains {
+        assert_eq!(fault(domain), None, "{}", domain.escape_ascii());
     }
     domains
 }
@@ -440,38 +470,53 @@ fn domains_of_every_shape() {
     }
 }
 
-#[test]
-fn enough_cases_of_each_kind() {
-    let mut counts: BTreeMap<u8, usize> = BTreeMap::new();
-    for (kind, _, line) in vectors() {
-        *counts.entry(kind).or_default() += 1;
-        let printable = |octet: u8| (32..=126).contains(&octet);
-        assert!(line.bytes().all(printable), "{line}");
-    }
-    let least = [(b'A', 60), (b'F', 30), (b'I', 24), (b'L', 400), (b'P', 80)];
-    assert_eq!(counts.len(), least.len());
-    for (kind, least) in least {
-        assert!(counts[&kind] >= least, "{} of {kind}", counts[&kind]);
+/// The first word of a case's line, but for labels.
+fn kind(case: &Case) -> &'static str {
+    match case {
+        Case::Policy(_) => "policy",
+        Case::Answer(_) => "answer",
+        Case::FileName(_) => "file",
+        Case::Field(_) => "field",
+        Case::Labels(_) => "labels",
     }
 }
 
 #[test]
-fn all_flags_with_a_method_at_size_64() {
+fn enough_cases_of_each_kind() {
+    let mut counts: BTreeMap<&str, usize> = BTreeMap::new();
+    for (case, line) in vectors() {
+        *counts.entry(kind(&case)).or_default() += 1;
+        assert!(line.starts_with(kind(&case)), "{line}");
+        let printable = |octet: u8| (32..=126).contains(&octet);
+        assert!(line.bytes().all(printable), "{line}");
+    }
+    let least = [
+        ("answer", 60),
+        ("field", 24),
+        ("file", 30),
+        ("labels", 400),
+        ("policy", 80),
+    ];
+    assert_eq!(counts.len(), least.len());
+    for (kind, least) in least {
+        assert!(counts[kind] >= least, "{} of {kind}", counts[kind]);
+    }
+}
+
+#[test]
+fn all_flags_at_size_64() {
     let vectors = vectors();
     for flags in 0..16_u8 {
         let flag = |bit: u8| flags >> bit & 1;
-        if flag(3) == 0 && flag(1) == 0 {
-            continue;
-        }
-        let body = [flag(3), flag(2), flag(1), flag(0), 64];
-        let there = |(kind, octets, _): &Case| *kind == b'I' && octets[..] == body;
-        assert!(vectors.iter().any(there), "{body:?}");
+        let case = field([flag(3), flag(2), flag(1), flag(0), 64]);
+        let there = vectors.iter().any(|(own, _)| *own == case);
+        assert!(there, "{case:?}");
     }
 }
 
 #[test]
 fn refused_calls_leave_lent_memory_unchanged() {
-    for (_, _, line) in vectors() {
+    for (_, line) in vectors() {
         if line.contains(" refused ") {
             assert!(line.contains("=0:") && line.ends_with(':'), "{line}");
         }
@@ -479,12 +524,6 @@ fn refused_calls_leave_lent_memory_unchanged() {
 }
 
 #[test]
-fn the_same_files_each_time() {
-    assert!(files() == files());
-}
-
-/// The program that runs the cases through the proved code has them beside it.
-#[test]
-fn the_stored_files_are_these() {
-    check_stored("vectors", files());
+fn the_same_cases_each_time() {
+    assert!(cases() == cases());
 }

@@ -1,10 +1,9 @@
 //! Daily rows that keep the rules, or break one of them.
 
 use crate::histories::code::Code;
-use crate::proved::rows::{Changed, DayList, Entry, Finding, Row, Seen};
 use crate::wrongs::wrongs;
 use evaluator::domain::{fault, without_dot};
-use records::proved::Refusal;
+use waslidhaj::raw::{Entry, FindingNumbers, List, ListChanged, Refusal, Row, Seen};
 
 wrongs! {
     FreeRowMatches
@@ -52,35 +51,35 @@ use Wrong::*;
 pub struct Twin(pub Wrong);
 
 impl Code for Twin {
-    fn new_list(&self) -> DayList {
-        DayList {
+    fn new_list(&self) -> List {
+        List {
             cleared: false,
             domain: [0; 253],
             length: 0,
         }
     }
 
-    fn clear(&self, list: DayList, domain: &[u8], rows: &mut [Row]) -> Changed {
+    fn clear(&self, list: List, domain: &[u8], rows: &mut [Row]) -> ListChanged {
         let (list, number, place) = self.cleared(list, domain, rows);
         let refusal = Refusal { number, place };
-        Changed { list, refusal }
+        ListChanged { list, refusal }
     }
 
-    fn enter(&self, list: DayList, entry: Entry, domain: &[u8], rows: &mut [Row]) -> Changed {
+    fn enter(&self, list: List, entry: Entry, domain: &[u8], rows: &mut [Row]) -> ListChanged {
         let number = self.entered(&list, &entry, domain, rows);
         let list = match number == 0 && self.is(NamedByAnEntry) {
             true => named(list, domain),
             false => list,
         };
         let refusal = Refusal { number, place: 0 };
-        Changed { list, refusal }
+        ListChanged { list, refusal }
     }
 }
 
-fn named(mut list: DayList, domain: &[u8]) -> DayList {
+fn named(mut list: List, domain: &[u8]) -> List {
     let length = domain.len().min(253);
     list.domain[..length].copy_from_slice(&domain[..length]);
-    DayList {
+    List {
         cleared: true,
         length,
         ..list
@@ -101,7 +100,7 @@ impl Twin {
         self.0 == wrong
     }
 
-    fn cleared(&self, list: DayList, domain: &[u8], rows: &mut [Row]) -> (DayList, u8, usize) {
+    fn cleared(&self, list: List, domain: &[u8], rows: &mut [Row]) -> (List, u8, usize) {
         let given = domain;
         let domain = match self.0 {
             TwoFinalDotsCleared => without_dot(without_dot(domain)),
@@ -132,7 +131,7 @@ impl Twin {
         }
     }
 
-    fn entered(&self, list: &DayList, entry: &Entry, domain: &[u8], rows: &mut [Row]) -> u8 {
+    fn entered(&self, list: &List, entry: &Entry, domain: &[u8], rows: &mut [Row]) -> u8 {
         let pass_or_fail = self.pass_or_fail(&entry.finding);
         let serves = self.serves(list, domain);
         let own = 256 + usize::from(self.is(OneRowMore)) - usize::from(self.is(OneRowFewer));
@@ -148,7 +147,7 @@ impl Twin {
         }
     }
 
-    fn pass_or_fail(&self, finding: &Finding) -> bool {
+    fn pass_or_fail(&self, finding: &FindingNumbers) -> bool {
         let most = match self.0 {
             DeferEntered => 3,
             UnlistedEntered => 255,
@@ -158,7 +157,7 @@ impl Twin {
         result && finding.disposition <= most
     }
 
-    fn serves(&self, list: &DayList, domain: &[u8]) -> bool {
+    fn serves(&self, list: &List, domain: &[u8]) -> bool {
         let own = &list.domain[..list.length];
         let cleared = list.cleared || self.is(NeverClearedServes);
         let domain = match self.0 {

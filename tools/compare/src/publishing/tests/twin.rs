@@ -4,8 +4,8 @@
 use crate::wrongs::wrongs;
 use evaluator::policy::entries::{check_entry, entries};
 use evaluator::policy::{read, repeated_name, rua_part};
-use records::code::{numbers, Code};
-use records::proved::{RecordNumbers, RecordRead, RecordWritten, Refusal};
+use records::code::{numbers, Code, RecordNumbers, RecordRead, Written};
+use waslidhaj::raw::Refusal;
 
 wrongs! {
     AbsentIsNone
@@ -62,7 +62,7 @@ const POLICIES: [&str; 3] = ["none", "quarantine", "reject"];
 const ABSENT: u8 = 3;
 
 impl Code for Twin {
-    fn write(&self, numbers: RecordNumbers, rua: &[u8], out: &mut [u8]) -> RecordWritten {
+    fn write(&self, numbers: RecordNumbers, rua: &[u8], out: &mut [u8]) -> Written {
         let bad_rua = !rua.is_empty() && !self.allows(rua);
         let text = self.text(&numbers, rua);
         let short = out.len() < text.len() + usize::from(self.is(OneOctetMoreNeeded));
@@ -92,19 +92,19 @@ impl Code for Twin {
         let (rua_begin, rua_length) = rua_part(text);
         let mut read = RecordRead {
             is_record: true,
-            numbers: numbers(&settings),
+            settings: numbers(&settings),
             reports: settings.rua_valid || self.is(ReportsByRuaAlone) && rua_length > 0,
             rua_begin,
             rua_length,
         };
-        if self.is(InvalidReadAsAbsent) && read.numbers.sp == 4 {
-            read.numbers.sp = ABSENT;
+        if self.is(InvalidReadAsAbsent) && read.settings.sp == 4 {
+            read.settings.sp = ABSENT;
         }
         if self.is(StrictReadInLowerCaseAlone) && !holds(text, b"adkim=s") {
-            read.numbers.adkim = 0;
+            read.settings.adkim = 0;
         }
         if self.is(PsdReadAsU) {
-            read.numbers.psd = 0;
+            read.settings.psd = 0;
         }
         if self.is(RuaWithABlank) && rua_begin > 0 && text[rua_begin - 1] == b' ' {
             read.rua_begin -= 1;
@@ -228,7 +228,7 @@ impl Twin {
         text
     }
 
-    fn lend(&self, text: &[u8], out: &mut [u8], refusal: Refusal) -> RecordWritten {
+    fn lend(&self, text: &[u8], out: &mut [u8], refusal: Refusal) -> Written {
         let refused = refusal.number != 0;
         let room = text.len().min(out.len());
         if !refused || self.is(WrittenAsFarAsItGoes) && refusal.number == 10 {
@@ -241,7 +241,7 @@ impl Twin {
             true => 0,
             false => text.len() + usize::from(self.is(LengthOneMore)),
         };
-        RecordWritten { refusal, length }
+        Written { refusal, length }
     }
 
     fn no_record(&self, text: &[u8]) -> RecordRead {
@@ -250,7 +250,7 @@ impl Twin {
             read.is_record = true;
         }
         if self.is(NumbersOfNoRecord) {
-            read.numbers.p = ABSENT;
+            read.settings.p = ABSENT;
         }
         if self.is(RuaOfNoRecord) {
             let begin = text.windows(4).position(|own| own == b"rua=");

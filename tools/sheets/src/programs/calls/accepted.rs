@@ -108,8 +108,11 @@ const DESCRIBED: &[&str] = &[
     r#"author news.example.com exists supported
      dkim pass a.news.example.com
      spf pass example.com
-     answer _dmarc.news.example.com "v=DMARC1; p=none" "v=DMARC1; p=none"
-     answer _dmarc.example.com "more" "v=DM" + "ARC1; p=" + "" + "reject" "v=spf1 -all""#,
+     answer _dmarc.news.example.com "v=DMARC1; p=none"
+     answer _dmarc.news.example.com "v=DMARC1; p=none"
+     answer _dmarc.example.com "more"
+     answer _dmarc.example.com "v=DM" "ARC1; p=" "" "reject"
+     answer _dmarc.example.com "v=spf1 -all""#,
     // psd=n below a record ends the walk; psd=u goes on.
     r#"author a.b.example.co.uk exists supported
      dkim pass c.b.example.co.uk
@@ -183,7 +186,8 @@ const DESCRIBED: &[&str] = &[
     r#"author a.example.com exists supported
      spf pass b.example.com
      answer _dmarc.a.example.com hex
-     answer _dmarc.example.com "junk" "V = DMARC1 ;P=NONE; ADKIM=S"
+     answer _dmarc.example.com "junk"
+     answer _dmarc.example.com "V = DMARC1 ;P=NONE; ADKIM=S"
      answer _dmarc.com """#,
     // 12 labels: the target after the domain has 7.
     r#"author a.b.c.d.e.f.g.h.i.j.example.com exists supported
@@ -199,7 +203,8 @@ const DESCRIBED: &[&str] = &[
     // A text with a tag twice is dropped: the one beside it applies, or the walk goes on.
     r#"author twice.example.com exists supported
      dkim pass mail.example.com
-     answer _dmarc.twice.example.com "v=DMARC1; p=none; p=reject" "v=DMARC1; p=quarantine; sp=; sp=none"
+     answer _dmarc.twice.example.com "v=DMARC1; p=none; p=reject"
+     answer _dmarc.twice.example.com "v=DMARC1; p=quarantine; sp=; sp=none"
      answer _dmarc.example.com "v=DMARC1; p=reject""#,
     r#"author twice.example.com exists supported
      spf pass mail.example.com

@@ -39,9 +39,8 @@ fn any() -> [Call; 3] {
 fn in_time_and_too_late() -> Vec<Call> {
     let answer = Call::Answer(AnswerCall {
         status: Status::Records,
-        scratch: 4096,
-        name: b"_dmarc.example.com".to_vec(),
         bytes: STRICT.to_vec(),
+        ..AnswerCall::none(b"_dmarc.example.com")
     });
     let field = Call::Field { size: 64 };
     let mut calls = vec![open(b"example.com"), Call::Result, add(1, 1, b"a.example")];
@@ -66,8 +65,10 @@ fn opened_over() -> Vec<Call> {
     let spf = add(0, 1, b"example.com");
     let mut calls = vec![open(b"example.com"), spf.clone(), add(1, 1, b"a.example")];
     calls.extend([open(b"example.org"), spf.clone(), spf.clone(), Call::Next]);
-    calls.extend([open(b"example.net"), add(2, 1, b"a.example"), spf.clone()]);
-    calls.extend([Call::Next, spf]);
+    // The name that was asked before is asked no more.
+    let late = Call::Answer(AnswerCall::none(b"_dmarc.example.org"));
+    calls.extend([open(b"example.net"), late, add(2, 1, b"a.example")]);
+    calls.extend([spf.clone(), Call::Next, spf]);
     calls
 }
 

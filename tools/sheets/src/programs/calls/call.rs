@@ -1,14 +1,16 @@
-//! One call: its octets in CASES, and the line it gives.
+//! One call, what it gives, and its line.
 
-use crate::programs::cases::{self, push_counted, sums, used, written_words, FILL};
-use crate::written::hex;
-use evaluator::book::{Book, Step};
+use std::fmt;
+
+use super::told::Told;
+use crate::description::quoted;
+use crate::programs::lent::{sums, used, FILL};
+use crate::written::{hex, status_number};
+use evaluator::book::Book;
 use evaluator::refusal::Refusal;
-use evaluator::rows::Finding;
 use evaluator::txt::{Answer, Status};
-use evaluator::verdict::{Alignment, Verdict};
 
-/// One call.
+/// One call. Of an answer and a field it has the size of the lent memory.
 #[derive(Clone, Debug, PartialEq, Eq)]
 pub enum Call {
     Open(OpenCall),
@@ -46,48 +48,81 @@ pub struct AnswerCall {
 }
 
 impl Call {
-    pub fn kind(&self) -> u8 {
+    /// The word of the call.
+    pub fn word(&self) -> &'static str {
         match self {
-            Call::Open(_) => b'O',
-            Call::Add(_) => b'I',
-            Call::Next => b'N',
-            Call::Answer(_) => b'A',
-            Call::Result => b'R',
-            Call::Field { .. } => b'F',
-            Call::Finding => b'D',
+            Call::Open(_) => "open",
+            Call::Add(_) => "add",
+            Call::Next => "next",
+            Call::Answer(_) => "answer",
+            Call::Result => "result",
+            Call::Field { .. } => "field",
+            Call::Finding => "finding",
         }
     }
 
-    /// The call as it stands in CASES.
-    pub fn octets(&self) -> Option<Vec<u8>> {
-        let body = match self {
-            Call::Open(given) => [&[given.existence, given.support], &given.author[..]].concat(),
-            Call::Add(given) => [&[given.kind, given.outcome], &given.domain[..]].concat(),
-            Call::Answer(given) => answer_body(given)?,
-            Call::Field { size } => size.to_be_bytes().to_vec(),
-            Call::Next | Call::Result | Call::Finding => Vec::new(),
-        };
-        cases::octets(self.kind(), &body)
+    /// How many octets are lent.
+    pub fn lent(&self) -> usize {
+        match self {
+            Call::Answer(given) => usize::from(given.scratch),
+            Call::Field { size } => usize::from(*size),
+            _ => 0,
+        }
     }
 
-    /// Makes the call, and gives the line that must be printed, without its end.
-    pub fn line(&self, book: &mut Book) -> String {
+    /// Makes the call on a book with this lent memory.
+    pub fn make(&self, book: &mut Book, lent: &mut [u8]) -> Told {
+        let accepted = |()| Told::Accepted;
         match self {
-            Call::Open(given) => format!("open {}", accepted_words(given.make(book))),
-            Call::Add(given) => format!("add {}", accepted_words(given.make(book))),
-            Call::Next => format!("next {}", step_words(book.next_step())),
+            Call::Open(given) => Told::of(given.make(book), accepted),
+            Call::Add(given) => Told::of(given.make(book), accepted),
+            Call::Next => Told::of(book.next_step(), Told::step),
+            Call::Answer(given) => Told::of(given.make(book, lent), accepted),
+            Call::Result => Told::of(book.result(), Told::Verdict),
+            Call::Field { .. } => Told::of(book.field(lent), Told::Wrote),
+            Call::Finding => Told::of(book.finding(), Told::Finding),
+        }
+    }
+
+    /// Makes the call with lent memory filled with 255, and gives its line: its
+    /// word, what it gives, and what the lent memory holds then.
+    pub fn line(&self, book: &mut Book) -> String {
+        let mut lent = vec![FILL; self.lent()];
+        let told = self.make(book, &mut lent);
+        let lent = match self {
+            Call::Answer(_) => format!(" scratch={}", sums(&lent)),
+            Call::Field { .. } => format!(" out={}:{}", sums(&lent), hex(used(&lent))),
+            _ => String::new(),
+        };
+        format!("{} {told}{lent}", self.word())
+    }
+}
+
+impl fmt::Display for Call {
+    /// The call with all that is handed in.
+    fn fmt(&self, out: &mut fmt::Formatter<'_>) -> fmt::Result {
+        out.write_str(self.word())?;
+        match self {
+            Call::Open(given) => {
+                let (existence, support) = (given.existence, given.support);
+                let author = quoted(&given.author);
+                write!(out, " {author} existence={existence} support={support}")
+            }
+            Call::Add(given) => {
+                let domain = quoted(&given.domain);
+                write!(
+                    out,
+                    " kind={} outcome={} {domain}",
+                    given.kind, given.outcome
+                )
+            }
             Call::Answer(given) => {
-                let mut scratch = vec![FILL; usize::from(given.scratch)];
-                let words = accepted_words(given.make(book, &mut scratch));
-                format!("answer {words} scratch={}", sums(&scratch))
+                let (status, name) = (status_number(given.status), quoted(&given.name));
+                let (bytes, scratch) = (quoted(&given.bytes), given.scratch);
+                write!(out, " {name} status={status} {bytes} scratch of {scratch}")
             }
-            Call::Result => format!("result {}", result_words(book.result())),
-            Call::Field { size } => {
-                let mut out = vec![FILL; usize::from(*size)];
-                let words = written_words(book.field(&mut out));
-                format!("field {words} out={}:{}", sums(&out), hex(used(&out)))
-            }
-            Call::Finding => format!("finding {}", finding_words(book.finding())),
+            Call::Field { size } => write!(out, " of {size}"),
+            Call::Next | Call::Result | Call::Finding => Ok(()),
         }
     }
 }
@@ -122,75 +157,18 @@ impl AddCall {
 }
 
 impl AnswerCall {
-    fn make(&self, book: &mut Book, scratch: &mut [u8]) -> Result<(), Refusal> {
+    /// No records for a name, with just enough scratch.
+    pub fn none(name: &[u8]) -> AnswerCall {
+        AnswerCall {
+            status: Status::None,
+            scratch: 4096,
+            name: name.to_vec(),
+            bytes: Vec::new(),
+        }
+    }
+
+    pub fn make(&self, book: &mut Book, scratch: &mut [u8]) -> Result<(), Refusal> {
         let (status, bytes) = (self.status, self.bytes.as_slice());
         book.answer(&self.name, Answer { status, bytes }, scratch)
-    }
-}
-
-fn answer_body(given: &AnswerCall) -> Option<Vec<u8>> {
-    let mut body = vec![cases::status_number(given.status)];
-    body.extend(given.scratch.to_be_bytes());
-    push_counted(&mut body, &given.name)?;
-    body.extend(&given.bytes);
-    Some(body)
-}
-
-fn accepted_words(accepted: Result<(), Refusal>) -> String {
-    match accepted {
-        Ok(()) => "accepted".to_string(),
-        Err(refusal) => refusal.to_string(),
-    }
-}
-
-fn step_words(step: Result<Step, Refusal>) -> String {
-    match step {
-        Ok(Step::Ask(asked)) => format!("ask {}", String::from_utf8_lossy(&asked.name)),
-        Ok(Step::Verdict(verdict)) => verdict_words(&verdict),
-        Err(refusal) => refusal.to_string(),
-    }
-}
-
-fn result_words(result: Result<Verdict, Refusal>) -> String {
-    match result {
-        Ok(verdict) => verdict_words(&verdict),
-        Err(refusal) => refusal.to_string(),
-    }
-}
-
-/// A verdict; of each alignment a letter.
-fn verdict_words(verdict: &Verdict) -> String {
-    let letters: String = verdict.alignments.iter().map(alignment_letter).collect();
-    format!(
-        "verdict {} policy={} disposition={} domain={} alignments={letters} count={}",
-        verdict.result.word(),
-        verdict.policy.word(),
-        verdict.disposition.word(),
-        String::from_utf8_lossy(&verdict.domain),
-        verdict.asked,
-    )
-}
-
-/// What would be entered, by its numbers.
-fn finding_words(finding: Result<Finding, Refusal>) -> String {
-    match finding {
-        Ok(found) => format!(
-            "result={} disposition={} dkim={} spf={} domain={}",
-            found.result,
-            found.disposition,
-            u8::from(found.dkim),
-            u8::from(found.spf),
-            String::from_utf8_lossy(&found.domain),
-        ),
-        Err(refusal) => refusal.to_string(),
-    }
-}
-
-fn alignment_letter(alignment: &Alignment) -> char {
-    match alignment {
-        Alignment::NotJudged => 'j',
-        Alignment::Aligned => 'a',
-        Alignment::NotAligned => 'n',
-        Alignment::Unknown => 'u',
     }
 }

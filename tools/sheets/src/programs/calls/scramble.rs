@@ -3,12 +3,13 @@
 
 mod seeded;
 
-pub use seeded::seeded;
+pub use seeded::Seeded;
 
 use super::accepted::Plan;
 use super::call::{AddCall, AnswerCall, Call, OpenCall};
 use super::{adding, refused};
 use crate::generate::domains::dotted;
+use crate::programs::lent::FILL;
 use crate::random::Random;
 use evaluator::book::Book;
 use evaluator::txt::{self, Status};
@@ -55,12 +56,9 @@ const IDENTIFIERS: [(u8, u8, &[u8]); 10] = [
     (255, 255, b"a..b"),
 ];
 
-/// A call that was made, and its line.
-pub type Made = (Call, String);
-
 /// The calls of these messages, one message after the other, with refused calls
 /// in between.
-pub fn scrambled(plans: &[Plan]) -> Vec<Made> {
+pub fn scrambled(plans: &[Plan]) -> Vec<Call> {
     let mut scrambler = Scrambler::new(Random::of(SEED, 0));
     scrambler.before_an_opening();
     for call in adding::calls() {
@@ -100,7 +98,7 @@ fn full_record(text: &[u8], octets: usize) -> Vec<u8> {
 struct Scrambler {
     random: Random,
     book: Book,
-    made: Vec<Made>,
+    made: Vec<Call>,
     /// The refused openings that were not made yet.
     refused: Vec<OpenCall>,
     /// The name that was answered last.
@@ -126,8 +124,9 @@ impl Scrambler {
 
     /// Makes a call.
     fn push(&mut self, call: Call) {
-        let line = call.line(&mut self.book);
-        self.made.push((call, line));
+        let mut lent = vec![FILL; call.lent()];
+        call.make(&mut self.book, &mut lent);
+        self.made.push(call);
     }
 
     fn push_answer(&mut self, name: &[u8], status: Status, bytes: &[u8], scratch: u16) {
@@ -328,8 +327,6 @@ impl Scrambler {
             _ if self.last != name => name = self.last.clone(),
             _ => name.clear(),
         }
-        // A length octet comes before it.
-        name.truncate(255);
         name
     }
 
@@ -386,12 +383,7 @@ impl Scrambler {
             let size = self.random.pick(&FIELD_SIZES);
             calls.push(Call::Field { size });
         }
-        calls.push(Call::Answer(AnswerCall {
-            status: Status::None,
-            scratch: 4096,
-            name: self.last.clone(),
-            bytes: Vec::new(),
-        }));
+        calls.push(Call::Answer(AnswerCall::none(&self.last)));
         calls.push(Call::Add(self.identifier()));
         self.random.shuffle(&mut calls);
         for call in calls {

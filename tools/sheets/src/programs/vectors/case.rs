@@ -1,6 +1,6 @@
-//! One case, and its octets in CASES.
+//! One case.
 
-use crate::programs::cases::{self, push_counted};
+use evaluator::report::FileName;
 use evaluator::txt::Status;
 
 /// One case.
@@ -50,59 +50,26 @@ pub struct FieldCase {
     pub size: u8,
 }
 
-impl FieldCase {
-    /// Without identifiers refusal 9 is due before a field is written.
-    pub fn has_method(&self) -> bool {
-        self.dkim.given || self.spf.given
-    }
-}
-
-impl Case {
-    pub fn kind(&self) -> u8 {
-        match self {
-            Case::Policy(_) => b'P',
-            Case::Answer(_) => b'A',
-            Case::FileName(_) => b'F',
-            Case::Field(_) => b'I',
-            Case::Labels(_) => b'L',
+impl NameCase {
+    /// What the file is named after.
+    pub fn parts(&self) -> FileName<'_> {
+        FileName {
+            receiver: &self.receiver,
+            policy_domain: &self.policy_domain,
+            begin: self.begin,
+            end: self.end,
+            id: (self.named != 0).then_some(&self.id),
         }
     }
+}
 
-    /// The case as it stands in CASES.
-    pub fn octets(&self) -> Option<Vec<u8>> {
-        let body = match self {
-            Case::Policy(text) | Case::Labels(text) => text.clone(),
-            Case::Answer(given) => answer_body(given),
-            Case::FileName(given) => name_body(given)?,
-            Case::Field(given) => field_body(given),
-        };
-        cases::octets(self.kind(), &body)
+impl FieldCase {
+    /// Kinds and outcomes of identifiers of the author's own domain: a pass is
+    /// aligned, no pass is not.
+    pub fn identifiers(&self) -> Vec<(u8, u8)> {
+        let of_kind =
+            |kind: u8, method: Method| method.given.then_some((kind, u8::from(method.aligned)));
+        let both = [of_kind(1, self.dkim), of_kind(0, self.spf)];
+        both.into_iter().flatten().collect()
     }
-}
-
-fn answer_body(given: &AnswerCase) -> Vec<u8> {
-    let mut body = vec![cases::status_number(given.status)];
-    body.extend(given.scratch.to_be_bytes());
-    body.extend(&given.bytes);
-    body
-}
-
-fn name_body(given: &NameCase) -> Option<Vec<u8>> {
-    let mut body = Vec::new();
-    push_counted(&mut body, &given.receiver)?;
-    push_counted(&mut body, &given.policy_domain)?;
-    body.extend(given.begin.to_be_bytes());
-    body.extend(given.end.to_be_bytes());
-    body.push(given.named);
-    push_counted(&mut body, &given.id)?;
-    body.extend(given.size.to_be_bytes());
-    Some(body)
-}
-
-fn field_body(given: &FieldCase) -> Vec<u8> {
-    let (dkim, spf) = (given.dkim, given.spf);
-    let flags = [dkim.given, dkim.aligned, spf.given, spf.aligned];
-    let mut body = flags.map(u8::from).to_vec();
-    body.push(given.size);
-    body
 }

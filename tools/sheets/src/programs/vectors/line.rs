@@ -1,15 +1,15 @@
-//! The line that must be printed for a case, by the second evaluator.
+//! The line of a case, by the second evaluator.
 
 use std::borrow::Cow;
 
-use super::case::{AnswerCase, Case, FieldCase, Method, NameCase};
-use crate::programs::cases::{sums, used, written_words, FILL};
+use super::case::{AnswerCase, Case, FieldCase, NameCase};
+use crate::programs::lent::{sums, used, written_words, FILL};
 use crate::written::hex;
 use evaluator::book::Book;
 use evaluator::domain::label_pass;
 use evaluator::policy::{self, Mode, Psd, Request, Settings};
 use evaluator::refusal::Refusal;
-use evaluator::report::{self, FileName};
+use evaluator::report;
 use evaluator::txt::{self, Answer, Reply};
 
 /// How many octets of the scratch a line shows.
@@ -57,15 +57,8 @@ fn answer_line(given: &AnswerCase) -> String {
 }
 
 fn name_line(given: &NameCase) -> String {
-    let parts = FileName {
-        receiver: &given.receiver,
-        policy_domain: &given.policy_domain,
-        begin: given.begin,
-        end: given.end,
-        id: (given.named != 0).then_some(&given.id),
-    };
     let mut out = vec![FILL; usize::from(given.size)];
-    let words = written_words(report::file_name(&parts, &mut out));
+    let words = written_words(report::file_name(&given.parts(), &mut out));
     format!("file {words} out={}:{}", sums(&out), ascii(used(&out)))
 }
 
@@ -86,12 +79,7 @@ fn labels_line(domain: &[u8]) -> String {
 
 /// The field of a message with these identifiers, asked for at its verdict.
 fn field(given: &FieldCase, out: &mut [u8]) -> Result<usize, Refusal> {
-    // A pass of the author's own domain is aligned, no pass is not.
-    let of_kind =
-        |kind: u8, method: Method| method.given.then_some((kind, u8::from(method.aligned)));
-    let both = [of_kind(1, given.dkim), of_kind(0, given.spf)];
-    let methods: Vec<(u8, u8)> = both.into_iter().flatten().collect();
-    let mut book = asking(&methods)?;
+    let mut book = asking(&given.identifiers())?;
     book.answer(ASKED, Answer::records(OWN_RECORD), &mut [0; 4096])?;
     book.field(out)
 }

@@ -3,7 +3,7 @@
 use super::super::accepted::Plan;
 use super::super::call::{Call, OpenCall};
 use super::super::refused;
-use super::{Made, Scrambler};
+use super::Scrambler;
 use crate::generate::domains::{dotted, recased};
 use crate::generate::{self, mutated};
 use crate::random::Random;
@@ -16,16 +16,35 @@ const ORDER: u64 = 0x6f72_6465_7221_2121;
 /// As many old names are kept.
 const OLD_NAMES: usize = 40;
 
-/// The calls of so many messages, one message after the other, or nothing if a
-/// message cannot be written.
-pub fn seeded(count: u64, seed: u64) -> Option<Vec<Made>> {
-    let mut scrambler = Scrambler::new(Random::of(seed ^ ORDER, 0));
-    scrambler.before_an_opening();
-    for index in 0..count {
-        scrambler.refusable(seed, index);
-        scrambler.message(&plan(seed, index)?);
+/// The calls of messages of a seed, message by message.
+pub struct Seeded {
+    scrambler: Scrambler,
+    seed: u64,
+    index: u64,
+}
+
+impl Seeded {
+    pub fn new(seed: u64) -> Seeded {
+        let mut scrambler = Scrambler::new(Random::of(seed ^ ORDER, 0));
+        scrambler.before_an_opening();
+        Seeded {
+            scrambler,
+            seed,
+            index: 0,
+        }
     }
-    Some(scrambler.made)
+}
+
+impl Iterator for Seeded {
+    type Item = Vec<Call>;
+
+    fn next(&mut self) -> Option<Vec<Call>> {
+        let (seed, index) = (self.seed, self.index);
+        self.scrambler.refusable(seed, index);
+        self.scrambler.message(&plan(seed, index)?);
+        self.index += 1;
+        Some(std::mem::take(&mut self.scrambler.made))
+    }
 }
 
 /// A message and its answers as the sheets have them: of a hostile sheet, where

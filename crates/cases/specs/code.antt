@@ -1,3 +1,0 @@
--- How the cases of the test programs are read.
-pub mod Bodies
-pub mod Sums

@@ -1,0 +1,32 @@
+// For programs in other languages: the file name of an aggregate report.
+ghost use mathlib.Core.Path.{_≡_};
+ghost use mathlib.Core.Bool.{not};
+ghost use lib.Dec.{eqb};
+ghost use Rattle.octets.specs.Lent.{written-if, left-if, written-numbers};
+ghost use Rattle.reporting.specs.FileName.{given-id, file-name};
+use octets::WrittenNumbers;
+
+// A report's file name into the front of lent memory; the id is given where its flag is not 0.
+#[no_mangle]
+pub extern "C" fn waslidhaj_file_name<'a>(
+    receiver: &'a [u8],
+    domain: &'a [u8],
+    begin: u64,
+    end: u64,
+    named: u8,
+    id: &'a [u8],
+    out: &mut [u8],
+) -> WrittenNumbers
+    ensures { λ r. ⌜ (r ≡ written-numbers (written-if (file-name (now (receiver .entry)) (now (domain .entry)) begin end (given-id (not (eqb named 0)) (now (id .entry)))) (now (out .entry)))) × (now (out .exit) ≡ left-if (file-name (now (receiver .entry)) (now (domain .entry)) begin end (given-id (not (eqb named 0)) (now (id .entry)))) (now (out .entry))) ⌝ }
+{
+    let written = reporting_name::write_file_name(
+        receiver,
+        domain,
+        begin,
+        end,
+        named != 0,
+        id,
+        out,
+    );
+    octets_write::number_written(written)
+}

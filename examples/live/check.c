@@ -1,0 +1,277 @@
+/* check: one message checked live, by the proved evaluator's calls and DNS lookups over libresolv.
+ *
+ *   gcc -std=c99 -Iinclude examples/live/check.c target/lib/libwaslidhaj.a -lresolv -o check
+ *   ./check example.com exists supported dkim=pass:mail.example.com
+ *
+ * To copy from, into a milter say: the lookups and the evaluation are all that DMARC needs; the rest reads words and prints.
+ * It ends with 0 after a verdict, 1 if it could not be run, 2 for a mistake in the words, 3 if it was refused. */
+#define _DEFAULT_SOURCE 1 /* resolv.h needs more than C99 */
+
+#include <sys/types.h>
+
+#include <netinet/in.h>
+
+#include <arpa/inet.h>
+#include <arpa/nameser.h>
+#include <netdb.h>
+#include <resolv.h>
+#include <stdio.h>
+#include <stdlib.h>
+#include <string.h>
+
+#include "waslidhaj.h"
+
+/* ---- Lookups ---- */
+
+/* What a lookup came to, as waslidhaj_answer takes it. Records are shorter here than in a reply, so they have room. */
+typedef struct {
+  uint8_t status;
+  size_t length;
+  uint8_t bytes[NS_MAXMSG];
+} answer;
+
+/* Appends a TXT record: the mark TX, the length of its RDATA (high octet first), its RDATA. */
+static int append(answer *to, ns_rr record) {
+  size_t length = ns_rr_rdlen(record);
+  uint8_t *end = to->bytes + to->length;
+  if (sizeof to->bytes - to->length < length + 4)
+    return 0;
+  end[0] = 'T';
+  end[1] = 'X';
+  end[2] = (uint8_t)(length >> 8);
+  end[3] = (uint8_t)(length & 255);
+  memcpy(end + 4, ns_rr_rdata(record), length);
+  to->length += length + 4;
+  return 1;
+}
+
+/* Whether a reply is whole, not cut off (TC), and no referral: its server has authority (AA) or asks on for us (RA). */
+static int is_answer(const uint8_t *reply) {
+  return (reply[2] & 2) == 0 && ((reply[2] & 4) != 0 || (reply[3] & 128) != 0);
+}
+
+/* Takes the TXT records out of a reply. Any others are CNAMEs on the way to them. */
+static uint8_t read_reply(const uint8_t *reply, int length, answer *to) {
+  ns_msg message;
+  ns_rr record;
+  int index;
+  if (length > NS_MAXMSG || !is_answer(reply) || ns_initparse(reply, length, &message) != 0)
+    return WASLIDHAJ_ERROR;
+  for (index = 0; index < ns_msg_count(message, ns_s_an); index++) {
+    if (ns_parserr(&message, ns_s_an, index, &record) != 0)
+      return WASLIDHAJ_ERROR;
+    if (ns_rr_type(record) == ns_t_txt && !append(to, record))
+      return WASLIDHAJ_ERROR;
+  }
+  return to->length > 0 ? WASLIDHAJ_RECORDS : WASLIDHAJ_NO_RECORDS;
+}
+
+/* Looks a name up, once. NXDOMAIN and a reply without TXT records are no records. Whatever else goes wrong, a time-out too, is
+ * an error: read as no records it would let forged mail in. */
+static void look_up(res_state resolver, const char *name, answer *to) {
+  uint8_t reply[NS_MAXMSG];
+  int length, why;
+  memset(reply, 0, NS_HFIXEDSZ);
+  length = res_nquery(resolver, name, ns_c_in, ns_t_txt, reply, sizeof reply);
+  why = resolver->res_h_errno;
+  to->length = 0;
+  if (length >= 0)
+    to->status = read_reply(reply, length, to);
+  else if ((why == HOST_NOT_FOUND || why == NO_DATA) && is_answer(reply))
+    to->status = WASLIDHAJ_NO_RECORDS;
+  else
+    to->status = WASLIDHAJ_ERROR;
+}
+
+/* Names one server, ADDRESS or ADDRESS:PORT with an IPv4 address, in place of those of resolv.conf. */
+static int set_server(res_state resolver, const char *text) {
+  struct sockaddr_in *server = &resolver->nsaddr_list[0];
+  char address[INET_ADDRSTRLEN];
+  size_t length = strcspn(text, ":");
+  int port = text[length] == ':' ? atoi(text + length + 1) : NS_DEFAULTPORT;
+  if (length >= sizeof address || port < 1 || port > 65535)
+    return 0;
+  memcpy(address, text, length);
+  address[length] = '\0';
+  server->sin_family = AF_INET;
+  server->sin_port = htons((uint16_t)port);
+  resolver->nscount = 1;
+  return inet_pton(AF_INET, address, &server->sin_addr) == 1;
+}
+
+/* One try, names as they are, EDNS0. The seconds are UDP's. Where a reply is cut off libresolv asks again over TCP, and waits
+ * there for as long as the connection stands: a milter bounds that itself, or sets RES_IGNTC, and then it is an error. */
+static int set_up(res_state resolver, const char *server, int seconds) {
+  resolver->retrans = seconds;
+  resolver->retry = 1;
+  resolver->options |= RES_USE_EDNS0;
+  resolver->options &= ~(unsigned long)(RES_DNSRCH | RES_DEFNAMES);
+  return server == NULL || set_server(resolver, server);
+}
+
+/* ---- The evaluation ---- */
+
+/* Hands in the answer for a name. Refused 6, it is over a limit or unreadable: the name is still asked, and it is an error. */
+static waslidhaj_called hand_in(waslidhaj_state state, const char *name, const answer *found) {
+  uint8_t scratch[WASLIDHAJ_SCRATCH_OCTETS];
+  const uint8_t *octets = (const uint8_t *)name;
+  size_t length = strlen(name);
+  waslidhaj_called called =
+      waslidhaj_answer(state, octets, length, found->status, found->bytes, found->length, scratch, sizeof scratch);
+  if (called.given.kind == WASLIDHAJ_REFUSED && called.given.refusal.number == 6) {
+    fprintf(stderr, "check: %s: the answer is over a limit or unreadable, so it is taken as an error\n", name);
+    called = waslidhaj_answer(called.state, octets, length, WASLIDHAJ_ERROR, found->bytes, 0, scratch, sizeof scratch);
+  }
+  return called;
+}
+
+/* Asks the name that an evaluation gives, and hands in what comes. */
+static waslidhaj_called ask(waslidhaj_called called, res_state resolver) {
+  uint8_t name[WASLIDHAJ_DOMAIN_OCTETS + 1];
+  answer found;
+  waslidhaj_written written =
+      waslidhaj_name(called.state, called.given.walk, called.given.place, name, WASLIDHAJ_DOMAIN_OCTETS);
+  name[written.length] = '\0';
+  printf("ask %s\n", (const char *)name);
+  look_up(resolver, (const char *)name, &found);
+  return hand_in(called.state, (const char *)name, &found);
+}
+
+/* Runs an opened evaluation to its verdict. */
+static waslidhaj_called evaluate(waslidhaj_state state, res_state resolver) {
+  waslidhaj_called called = waslidhaj_next(state);
+  while (called.given.kind == WASLIDHAJ_ASK) {
+    called = ask(called, resolver);
+    if (called.given.kind != WASLIDHAJ_REFUSED)
+      called = waslidhaj_next(called.state);
+  }
+  return called;
+}
+
+/* ---- Words ---- */
+
+/* The words of the numbers, each at its number. */
+static const char *const EXISTENCES[] = {"missing", "exists", "unknown", NULL};
+static const char *const SUPPORTS[] = {"unsupported", "supported", NULL};
+static const char *const KINDS[] = {"spf", "dkim", NULL};
+static const char *const OUTCOMES[] = {"fail", "pass", "temperror", NULL};
+static const char *const RESULTS[] = {"none", "pass", "fail", "temperror", "permerror"};
+static const char *const POLICIES[] = {"none", "quarantine", "reject", "unknown"};
+static const char *const DISPOSITIONS[] = {"none", "quarantine", "reject", "defer"};
+static const char *const ALIGNMENTS[] = {"not judged", "aligned", "not aligned", "unknown"};
+
+/* An identifier: SPF's or DKIM's outcome for a domain. */
+typedef struct {
+  int kind, outcome;
+  const char *domain;
+} identifier;
+
+/* Ends the program, at a mistake in its words. */
+static void misused(void) {
+  fputs("usage: check [--server ADDRESS[:PORT]] [--timeout SECONDS] AUTHOR exists|missing|unknown supported|unsupported\n"
+        "             [spf|dkim=pass|fail|temperror:DOMAIN]...\n",
+        stderr);
+  exit(2);
+}
+
+/* The number of the word that is the first `length` octets of a text. */
+static int number_of(const char *const *words, const char *text, size_t length) {
+  int number;
+  for (number = 0; words[number] != NULL; number++)
+    if (strlen(words[number]) == length && strncmp(words[number], text, length) == 0)
+      return number;
+  misused();
+  return -1;
+}
+
+/* KIND=OUTCOME:DOMAIN */
+static identifier read_identifier(const char *text) {
+  identifier read;
+  size_t kind = strcspn(text, "=");
+  const char *outcome = text + kind + (text[kind] == '=');
+  size_t length = strcspn(outcome, ":");
+  read.kind = number_of(KINDS, text, kind);
+  read.outcome = number_of(OUTCOMES, outcome, length);
+  if (outcome[length] != ':')
+    misused();
+  read.domain = outcome + length + 1;
+  return read;
+}
+
+/* ---- One message ---- */
+
+/* Opens a message by its words, AUTHOR, existence, support and its identifiers, up to a refusal. */
+static waslidhaj_called open_message(char **words) {
+  waslidhaj_state state;
+  waslidhaj_called called;
+  int existence = number_of(EXISTENCES, words[1], strlen(words[1]));
+  int support = number_of(SUPPORTS, words[2], strlen(words[2]));
+  memset(&state, 0, sizeof state);
+  called = waslidhaj_open(state, (const uint8_t *)words[0], strlen(words[0]), (uint8_t)existence, (uint8_t)support);
+  for (words += 3; *words != NULL && called.given.kind != WASLIDHAJ_REFUSED; words++) {
+    identifier read = read_identifier(*words);
+    called = waslidhaj_add(called.state, (uint8_t)read.kind, (uint8_t)read.outcome, (const uint8_t *)read.domain,
+                           strlen(read.domain));
+  }
+  return called;
+}
+
+/* The verdict, then, as far as there are any, the domain of the applied record, the identifiers and the field. */
+static void print_verdict(waslidhaj_called called, char **identifiers) {
+  uint8_t out[WASLIDHAJ_DOMAIN_OCTETS];
+  waslidhaj_verdict verdict = called.given.verdict;
+  waslidhaj_written domain = waslidhaj_domain(called.state, verdict.begin, out, sizeof out);
+  waslidhaj_given field;
+  unsigned index;
+  printf("result %s\npolicy %s\n", RESULTS[verdict.result], POLICIES[verdict.policy]);
+  printf("disposition %s\nasked %zu\n", DISPOSITIONS[verdict.disposition], verdict.count);
+  if (domain.length > 0)
+    printf("record %.*s\n", (int)domain.length, (const char *)out);
+  for (index = 0; identifiers[index] != NULL; index++)
+    printf("%s: %s\n", identifiers[index], ALIGNMENTS[waslidhaj_alignment(verdict, index)]);
+  field = waslidhaj_field(called.state, out, sizeof out);
+  if (field.kind == WASLIDHAJ_ACCEPTED)
+    printf("%.*s\n", (int)field.length - 2, (const char *)out); /* without its CR LF */
+}
+
+/* Checks a message by its words, and gives the exit status. */
+static int check(char **words, res_state resolver) {
+  waslidhaj_called called = open_message(words);
+  if (called.given.kind != WASLIDHAJ_REFUSED)
+    called = evaluate(called.state, resolver);
+  if (called.given.kind == WASLIDHAJ_REFUSED) {
+    printf("refused %u at %zu\n", called.given.refusal.number, called.given.refusal.place);
+    return 3;
+  }
+  print_verdict(called, words + 3);
+  return 0;
+}
+
+int main(int argc, char **argv) {
+  struct __res_state resolver;
+  const char *server = NULL;
+  int seconds = 5;
+  int status;
+  for (argv++; argc > 2 && strncmp(*argv, "--", 2) == 0; argv += 2, argc -= 2) {
+    if (strcmp(*argv, "--server") == 0)
+      server = argv[1];
+    else if (strcmp(*argv, "--timeout") == 0)
+      seconds = atoi(argv[1]);
+    else
+      misused();
+  }
+  memset(&resolver, 0, sizeof resolver);
+  if (res_ninit(&resolver) != 0) {
+    fputs("check: the resolver cannot be set up\n", stderr);
+    return 1;
+  }
+  if (argc < 4 || seconds < 1 || !set_up(&resolver, server, seconds))
+    misused();
+  status = check(argv, &resolver);
+  res_nclose(&resolver);
+  if (fflush(stdout) != 0 || ferror(stdout)) {
+    fputs("check: the output cannot be written\n", stderr);
+    return 1;
+  }
+  return status;
+}

@@ -1,0 +1,165 @@
+//! The functions of the C interface, safe: a slice for each pointer and length.
+//!
+//! Any values and any octets may be handed in. A slice is lent for the call
+//! alone, its pointer is never null, and the proved code reads and writes within
+//! the lengths; this is the reason of every `unsafe` here. It is also the only
+//! module that has any.
+
+use crate::raw::*;
+
+/// Opens an evaluation. Accepted, or refused 1, 3.
+pub fn open(state: State, author: &[u8], existence: u8, support: u8) -> Called {
+    // SAFETY: the author is lent by its pointer and length.
+    unsafe { waslidhaj_open(state, author.as_ptr(), author.len(), existence, support) }
+}
+
+/// Adds an identifier. Accepted, or refused 17, 3, 4, 2.
+pub fn add(state: State, kind: u8, outcome: u8, domain: &[u8]) -> Called {
+    // SAFETY: the domain is lent by its pointer and length.
+    unsafe { waslidhaj_add(state, kind, outcome, domain.as_ptr(), domain.len()) }
+}
+
+/// The next step: a name to ask, the verdict, or refused 7.
+pub fn next(state: State) -> Called {
+    // SAFETY: values alone.
+    unsafe { waslidhaj_next(state) }
+}
+
+/// An answer for the name now asked. Accepted, or refused 5, 6, 10.
+pub fn answer(state: State, name: &[u8], status: u8, bytes: &[u8], scratch: &mut [u8]) -> Called {
+    // SAFETY: each slice is lent by its pointer and length.
+    unsafe {
+        waslidhaj_answer(
+            state,
+            name.as_ptr(),
+            name.len(),
+            status,
+            bytes.as_ptr(),
+            bytes.len(),
+            scratch.as_mut_ptr(),
+            scratch.len(),
+        )
+    }
+}
+
+/// The verdict again, or refused 7.
+pub fn result(state: State) -> Given {
+    // SAFETY: values alone.
+    unsafe { waslidhaj_result(state) }
+}
+
+/// Writes the Identity-Alignment field. Accepted, or refused 7, 9, 10.
+pub fn field(state: State, out: &mut [u8]) -> Given {
+    // SAFETY: the output is lent by its pointer and length.
+    unsafe { waslidhaj_field(state, out.as_mut_ptr(), out.len()) }
+}
+
+/// Writes the name that a walk and a place mark, or refused 10.
+pub fn name(state: State, walk: usize, place: usize, out: &mut [u8]) -> Written {
+    // SAFETY: the output is lent by its pointer and length.
+    unsafe { waslidhaj_name(state, walk, place, out.as_mut_ptr(), out.len()) }
+}
+
+/// Writes the domain of the applied record by a verdict's `begin`, or refused 10.
+pub fn domain(state: State, begin: usize, out: &mut [u8]) -> Written {
+    // SAFETY: the output is lent by its pointer and length.
+    unsafe { waslidhaj_domain(state, begin, out.as_mut_ptr(), out.len()) }
+}
+
+/// Runs a sheet, and gives the length of what is printed for it, which stands in
+/// the output if there is room; else the output is as it was.
+pub fn run(sheet: &[u8], out: &mut [u8]) -> usize {
+    // SAFETY: both slices are lent by pointer and length.
+    unsafe { waslidhaj_run(sheet.as_ptr(), sheet.len(), out.as_mut_ptr(), out.len()) }
+}
+
+/// What is entered in a day's list of an evaluation at its verdict, or refused 7.
+pub fn finding(state: State) -> Found {
+    // SAFETY: values alone.
+    unsafe { waslidhaj_finding(state) }
+}
+
+/// A list that was never cleared.
+pub fn new_list() -> List {
+    // SAFETY: it takes nothing, and gives a value.
+    unsafe { waslidhaj_new_list() }
+}
+
+/// Clears a list for a policy domain, or refused 11.
+pub fn clear(list: List, domain: &[u8], rows: &mut [Row]) -> ListChanged {
+    // SAFETY: both slices are lent by pointer and length.
+    unsafe {
+        waslidhaj_clear(
+            list,
+            domain.as_ptr(),
+            domain.len(),
+            rows.as_mut_ptr(),
+            rows.len(),
+        )
+    }
+}
+
+/// Enters a verdict whose applied record is of this domain, or refused 14, 27, 12,
+/// 13.
+pub fn enter(list: List, entry: Entry, domain: &[u8], rows: &mut [Row]) -> ListChanged {
+    // SAFETY: both slices are lent by pointer and length.
+    unsafe {
+        waslidhaj_enter(
+            list,
+            entry,
+            domain.as_ptr(),
+            domain.len(),
+            rows.as_mut_ptr(),
+            rows.len(),
+        )
+    }
+}
+
+/// Writes the file name of a report, or refused 11, 10. Where `has_id` is 0 the id
+/// is not read.
+pub fn file_name(
+    receiver: &[u8],
+    domain: &[u8],
+    begin: u64,
+    end: u64,
+    has_id: u8,
+    id: &[u8],
+    out: &mut [u8],
+) -> Written {
+    // SAFETY: each slice is lent by its pointer and length.
+    unsafe {
+        waslidhaj_file_name(
+            receiver.as_ptr(),
+            receiver.len(),
+            domain.as_ptr(),
+            domain.len(),
+            begin,
+            end,
+            has_id,
+            id.as_ptr(),
+            id.len(),
+            out.as_mut_ptr(),
+            out.len(),
+        )
+    }
+}
+
+/// Writes a policy record, or refused 15, 16, 10.
+pub fn write_record(settings: Settings, rua: &[u8], out: &mut [u8]) -> Written {
+    // SAFETY: both slices are lent by pointer and length.
+    unsafe {
+        waslidhaj_write_record(
+            settings,
+            rua.as_ptr(),
+            rua.len(),
+            out.as_mut_ptr(),
+            out.len(),
+        )
+    }
+}
+
+/// Reads a text as a policy record.
+pub fn read_record(text: &[u8]) -> RecordRead {
+    // SAFETY: the text is lent by its pointer and length.
+    unsafe { waslidhaj_read_record(text.as_ptr(), text.len()) }
+}

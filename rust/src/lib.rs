@@ -1,0 +1,103 @@
+//! Waslidhaj: a proved DMARC evaluator (RFC 9989) for programs that send their
+//! own DNS lookups.
+//!
+//! An [`Evaluation`] is a plain value: there is no allocation in it, no global,
+//! no lock and no callback. Open one with the author domain, add an identifier
+//! for each SPF or DKIM outcome, then take the [`next`](Evaluation::next) step
+//! and hand in an [`answer`](Evaluation::answer) for the name that it asks for,
+//! in turn, until it gives the verdict.
+//!
+//! ```
+//! use waslidhaj::{records, Alignment, Answer, Disposition, DmarcResult};
+//! use waslidhaj::{Evaluation, Existence, Kind, Outcome, Step, SCRATCH_OCTETS};
+//!
+//! /// Stands for a lookup of TXT records: the RDATA of each, or no answer.
+//! fn lookup(name: &str) -> Result<Vec<&'static [u8]>, ()> {
+//!     Ok(match name {
+//!         "_dmarc.example.com" => vec![b"\x12v=DMARC1; p=reject"],
+//!         _ => vec![],
+//!     })
+//! }
+//!
+//! fn main() -> Result<(), waslidhaj::Refusal> {
+//!     let mut evaluation = Evaluation::open("example.com", Existence::Exists, true)?;
+//!     evaluation.add(Kind::Dkim, Outcome::Pass, "mail.example.com")?;
+//!     evaluation.add(Kind::Spf, Outcome::NotPassing, "bounce.example.net")?;
+//!     let mut scratch = [0; SCRATCH_OCTETS];
+//!     let verdict = loop {
+//!         let name = match evaluation.next()? {
+//!             Step::Ask(name) => name,
+//!             Step::Verdict(verdict) => break verdict,
+//!         };
+//!         let found = lookup(name.as_str());
+//!         let bytes = found.map(|rdatas| records(&rdatas));
+//!         let answer = match &bytes {
+//!             Ok(Some(bytes)) if bytes.is_empty() => Answer::NoRecords,
+//!             Ok(Some(bytes)) => Answer::Records(bytes),
+//!             // A lookup that failed or timed out is an error, and so is an
+//!             // answer that cannot be written.
+//!             _ => Answer::Error,
+//!         };
+//!         if evaluation.answer(name, answer, &mut scratch).is_err() {
+//!             // Refused 6: over a limit, or unreadable. Its name still stands.
+//!             evaluation.answer(name, Answer::Error, &mut scratch)?;
+//!         }
+//!     };
+//!     assert_eq!(verdict.result, DmarcResult::Pass);
+//!     assert_eq!(verdict.disposition, Disposition::None);
+//!     assert_eq!(verdict.domain, "example.com");
+//!     assert_eq!(verdict.alignments, [Alignment::Aligned, Alignment::NotAligned]);
+//!     assert_eq!(verdict.asked, 3);
+//!     let mut field = [0; 64];
+//!     let length = evaluation.field(&mut field)?;
+//!     assert_eq!(&field[..length], b"Identity-Alignment: spf\r\n");
+//!     Ok(())
+//! }
+//! ```
+//!
+//! Domains and names are taken as any octets, so that what a message has can be
+//! handed in as it is. What cannot be taken is a [`Refusal`]; a refused call
+//! leaves the evaluation and lent memory as they were.
+//!
+//! Beside evaluations there are [`DayList`] (a day's verdicts, gathered in rows),
+//! [`FileName`] (of a report), [`policy`] (policy records written and read) and
+//! [`run`] (a whole message from a sheet). [`calls`] and [`raw`] have the C
+//! interface itself.
+
+#![deny(unsafe_code)]
+#![warn(missing_docs)]
+
+mod answer;
+#[allow(unsafe_code)]
+pub mod calls;
+mod evaluation;
+mod name;
+mod numbers;
+pub mod policy;
+pub mod raw;
+mod refusal;
+mod report;
+mod rows;
+mod sheet;
+mod verdict;
+
+pub use answer::{records, Answer};
+pub use evaluation::{Evaluation, Step};
+pub use name::Name;
+pub use numbers::{Alignment, AppliedPolicy, Disposition, DmarcResult};
+pub use numbers::{Existence, Kind, Outcome};
+pub use raw::{Row, Seen};
+pub use refusal::Refusal;
+pub use report::FileName;
+pub use rows::{mapped, DayList, Finding};
+pub use sheet::{run, PRINTED_OCTETS};
+pub use verdict::Verdict;
+
+/// The most octets of a domain or a name.
+pub const DOMAIN_OCTETS: usize = 253;
+/// The scratch that an answer needs.
+pub const SCRATCH_OCTETS: usize = 4096;
+/// The most identifiers of a message.
+pub const IDENTIFIERS: usize = 16;
+/// The most rows of a day's list.
+pub const ROWS: usize = 256;

@@ -1,0 +1,91 @@
+//! What a C header declares, as far as `include/waslidhaj.h` needs it: structs of
+//! plain fields, enumerators, functions.
+
+/// A struct by its name in C and the names of its fields.
+#[derive(Clone, Debug, PartialEq, Eq)]
+pub struct Struct {
+    pub name: String,
+    pub fields: Vec<String>,
+}
+
+/// A header without its comments.
+pub struct Header(String);
+
+impl Header {
+    pub fn read(text: &str) -> Header {
+        let mut plain = String::new();
+        for (index, part) in text.split("/*").enumerate() {
+            let after = part.split_once("*/").map_or("", |(_, after)| after);
+            plain += if index == 0 { part } else { after };
+        }
+        Header(plain)
+    }
+
+    /// What stands between braces after a word, and what follows up to a `;`.
+    fn braced(&self, word: &str) -> Vec<(&str, &str)> {
+        let begin = format!("{word} {{");
+        let parts = self.0.split(begin.as_str()).skip(1);
+        let pairs = parts.filter_map(|part| {
+            let (body, rest) = part.split_once('}')?;
+            Some((body, rest.split(';').next()?.trim()))
+        });
+        pairs.collect()
+    }
+
+    pub fn structs(&self) -> Vec<Struct> {
+        let all = self.braced("typedef struct").into_iter();
+        all.map(|(body, name)| Struct {
+            name: name.to_string(),
+            fields: body.split(';').flat_map(fields).collect(),
+        })
+        .collect()
+    }
+
+    pub fn enumerators(&self) -> Vec<String> {
+        let all = self.braced("enum").into_iter();
+        let entries = all.flat_map(|(body, _)| body.split(','));
+        let names = entries.map(|entry| entry.split('=').next().unwrap_or_default().trim());
+        names.map(str::to_string).collect()
+    }
+
+    /// The functions that are declared and have no body here.
+    pub fn functions(&self) -> Vec<String> {
+        let declared = self.0.split(';').filter(|part| !part.contains('{'));
+        let heads = declared.filter_map(|part| part.split_once('('));
+        let names = heads.filter_map(|(head, _)| head.split_whitespace().next_back());
+        names.map(str::to_string).collect()
+    }
+}
+
+/// The names of a declaration such as `uint8_t a, b[3]`.
+fn fields(declaration: &str) -> Vec<String> {
+    let names = declaration
+        .trim()
+        .split_once(' ')
+        .map_or("", |(_, names)| names);
+    let names = names
+        .split(',')
+        .map(|name| name.split('[').next().unwrap_or_default().trim());
+    names
+        .filter(|name| !name.is_empty())
+        .map(str::to_string)
+        .collect()
+}
+
+#[cfg(test)]
+mod tests {
+    use super::{Header, Struct};
+
+    #[test]
+    fn structs_enumerators_and_functions() {
+        let text = "/* a; { */ enum { A, B = 2 /* b, */ };\nenum {\n  C\n};\n\
+            typedef struct {\n  int a, b[2];\n  /* c; */ x_y c;\n} x_z;\n\
+            static inline int f(int a) {\n  return a;\n}\nx_z g(int a,\n  int b);\nint h(void);\n";
+        let header = Header::read(text);
+        assert_eq!(header.enumerators(), ["A", "B", "C"]);
+        let fields = ["a", "b", "c"].map(str::to_string).to_vec();
+        let name = "x_z".to_string();
+        assert_eq!(header.structs(), [Struct { name, fields }]);
+        assert_eq!(header.functions(), ["g", "h"]);
+    }
+}

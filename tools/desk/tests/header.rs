@@ -1,0 +1,222 @@
+//! `include/waslidhaj.h` compiles as C and as C++ without a warning, says what the
+//! wrapper crate says of every struct, field and number, and declares nothing
+//! that the archive lacks.
+
+use std::fs;
+use std::mem::offset_of;
+use std::path::{Path, PathBuf};
+use std::process::Command;
+
+use desk::compiler::{archive, compile};
+use desk::header::{Header, Struct};
+use desk::root;
+use waslidhaj::raw::{Called, Entry, Found, Given, List, ListChanged, RecordRead, Refusal};
+use waslidhaj::raw::{FindingNumbers, Row, Seen, Settings, State, Verdict, Written};
+use waslidhaj::raw::{ACCEPTED, ASK, REFUSED, VERDICT};
+use waslidhaj::{Alignment, AppliedPolicy, Disposition, DmarcResult};
+use waslidhaj::{Existence, Kind, Outcome};
+use waslidhaj::{DOMAIN_OCTETS, IDENTIFIERS, ROWS, SCRATCH_OCTETS};
+
+/// Each compiler, and the standards that the header is compiled by.
+const COMPILERS: [(&str, &str, &[&str]); 2] = [
+    ("gcc", "c", &["c99", "c11", "c17"]),
+    ("g++", "cpp", &["c++11", "c++14", "c++17", "c++20"]),
+];
+
+fn header() -> Header {
+    let text = fs::read_to_string(root().join("include/waslidhaj.h"));
+    Header::read(&text.expect("the header"))
+}
+
+/// Compiles a program by each standard, runs it, and hands on what it prints.
+fn printed_by_each(title: &str, program: &str, more: &[PathBuf], check: impl Fn(&str)) {
+    for (compiler, ending, standards) in COMPILERS {
+        for standard in standards {
+            let folder = Path::new(env!("CARGO_TARGET_TMPDIR"));
+            let source = folder.join(format!("{title}.{ending}"));
+            let built = folder.join(format!("{title}-{standard}"));
+            fs::write(&source, program).expect("a file in the target folder");
+            let mut words = vec![source];
+            words.extend_from_slice(more);
+            words.extend(["-o".into(), built.clone()]);
+            compile(compiler, standard, &words);
+            let ran = Command::new(&built).output().expect("the program runs");
+            assert!(ran.status.success(), "{title}, {standard}");
+            check(&String::from_utf8(ran.stdout).expect("plain text"));
+        }
+    }
+}
+
+fn program(before: &[String], statements: &[String]) -> String {
+    let includes = "#include <stddef.h>\n#include <stdio.h>\n#include \"waslidhaj.h\"\n";
+    let before: String = before.iter().map(|line| format!("{line}\n")).collect();
+    let within: String = statements
+        .iter()
+        .map(|line| format!("  {line}\n"))
+        .collect();
+    format!("{includes}{before}int main(void) {{\n{within}  return 0;\n}}\n")
+}
+
+/// `waslidhaj_list_changed` is `ListChanged` in Rust.
+fn rust_name(name: &str) -> String {
+    let words = name.split('_').skip(1);
+    let capital = |word: &str| word[..1].to_uppercase() + &word[1..];
+    words.map(capital).collect()
+}
+
+/// A struct's size and alignment, then each field's place and size. C99 has no
+/// word for an alignment: it is where a value stands after one octet.
+fn layout_statements(of: &Struct) -> Vec<String> {
+    let (c, rust) = (&of.name, rust_name(&of.name));
+    let first =
+        format!("printf(\"{rust} %zu %zu\\n\", sizeof({c}), offsetof(struct after_{c}, value));");
+    let field = |field: &String| {
+        let size = format!("sizeof((({c} *)0)->{field})");
+        format!("printf(\"{rust}.{field} %zu %zu\\n\", offsetof({c}, {field}), {size});")
+    };
+    let fields = of.fields.iter().map(field);
+    [first].into_iter().chain(fields).collect()
+}
+
+fn field_size<Whole, Field>(_: fn(&Whole) -> &Field) -> usize {
+    size_of::<Field>()
+}
+
+/// The same of a struct in Rust.
+macro_rules! layout {
+    ($name:ident: $($field:ident)*) => {{
+        let (name, size) = (stringify!($name), size_of::<$name>());
+        let first = format!("{name} {size} {}\n", align_of::<$name>());
+        let fields: [String; [$(stringify!($field)),*].len()] = [$({
+            let place = offset_of!($name, $field);
+            let size = field_size(|whole: &$name| &whole.$field);
+            format!("{name}.{} {place} {size}\n", stringify!($field))
+        }),*];
+        first + &fields.concat()
+    }};
+}
+
+fn layouts() -> String {
+    [
+        layout!(Refusal: number place),
+        layout!(Written: refusal length),
+        layout!(Verdict: result policy disposition begin alignments count),
+        layout!(Given: kind walk place length verdict refusal),
+        layout!(State: started handed asked existence support place_kind found domains numbers
+            kept stored identifiers count ruling_begin ruling_settings ruling_policy walk
+            record_begin record_settings target_begin target_wider more),
+        layout!(Called: state given),
+        layout!(Seen: source disposition dkim spf),
+        layout!(Row: seen count),
+        layout!(List: cleared domain length),
+        layout!(FindingNumbers: result disposition dkim spf),
+        layout!(Entry: source finding),
+        layout!(ListChanged: list refusal),
+        layout!(Found: kind finding begin refusal),
+        layout!(Settings: p sp np adkim aspf psd t),
+        layout!(RecordRead: is_record settings reports rua_begin rua_length),
+    ]
+    .concat()
+}
+
+#[test]
+fn structs_lie_in_memory_as_in_rust() {
+    let structs = header().structs();
+    let after = |of: &Struct| {
+        let c = &of.name;
+        format!("struct after_{c} {{ char octet; {c} value; }};")
+    };
+    let before: Vec<String> = structs.iter().map(after).collect();
+    let statements: Vec<String> = structs.iter().flat_map(layout_statements).collect();
+    let program = program(&before, &statements);
+    printed_by_each("layouts", &program, &[], |printed| {
+        assert_eq!(printed, layouts());
+    });
+}
+
+/// The numbers of the wrapper by the header's words, in the header's order. A
+/// status of an answer has no number in Rust: these are document 01's.
+#[rustfmt::skip]
+fn numbers() -> Vec<(&'static str, usize)> {
+    vec![
+        ("DOMAIN_OCTETS", DOMAIN_OCTETS),
+        ("SCRATCH_OCTETS", SCRATCH_OCTETS),
+        ("IDENTIFIERS", IDENTIFIERS),
+        ("ROWS", ROWS),
+        ("MISSING", Existence::Missing as usize),
+        ("EXISTS", Existence::Exists as usize),
+        ("NOT_KNOWN", Existence::NotKnown as usize),
+        ("SPF", Kind::Spf as usize),
+        ("DKIM", Kind::Dkim as usize),
+        ("NOT_PASSING", Outcome::NotPassing as usize),
+        ("PASSING", Outcome::Pass as usize),
+        ("TEMPORARY_ERROR", Outcome::TemporaryError as usize),
+        ("RECORDS", 0),
+        ("NO_RECORDS", 1),
+        ("ERROR", 2),
+        ("RESULT_NONE", DmarcResult::None as usize),
+        ("RESULT_PASS", DmarcResult::Pass as usize),
+        ("RESULT_FAIL", DmarcResult::Fail as usize),
+        ("RESULT_TEMPERROR", DmarcResult::Temperror as usize),
+        ("RESULT_PERMERROR", DmarcResult::Permerror as usize),
+        ("POLICY_NONE", AppliedPolicy::None as usize),
+        ("POLICY_QUARANTINE", AppliedPolicy::Quarantine as usize),
+        ("POLICY_REJECT", AppliedPolicy::Reject as usize),
+        ("POLICY_UNKNOWN", AppliedPolicy::Unknown as usize),
+        ("DISPOSITION_NONE", Disposition::None as usize),
+        ("DISPOSITION_QUARANTINE", Disposition::Quarantine as usize),
+        ("DISPOSITION_REJECT", Disposition::Reject as usize),
+        ("DISPOSITION_DEFER", Disposition::Defer as usize),
+        ("NOT_JUDGED", Alignment::NotJudged as usize),
+        ("ALIGNED", Alignment::Aligned as usize),
+        ("NOT_ALIGNED", Alignment::NotAligned as usize),
+        ("ALIGNMENT_UNKNOWN", Alignment::Unknown as usize),
+        ("ACCEPTED", ACCEPTED.into()),
+        ("ASK", ASK.into()),
+        ("VERDICT", VERDICT.into()),
+        ("REFUSED", REFUSED.into()),
+    ]
+}
+
+#[test]
+fn enumerators_are_the_numbers_of_rust() {
+    let print = |name: &String| format!("printf(\"{name} %d\\n\", (int){name});");
+    let statements: Vec<String> = header().enumerators().iter().map(print).collect();
+    let line = |(name, number): &(&str, usize)| format!("WASLIDHAJ_{name} {number}\n");
+    let expected: String = numbers().iter().map(line).collect();
+    let program = program(&[], &statements);
+    printed_by_each("numbers", &program, &[], |printed| {
+        assert_eq!(printed, expected);
+    });
+}
+
+/// Two bits an identifier, the first one's lowest; past the last one there are
+/// none.
+#[test]
+fn an_alignment_of_a_verdict() {
+    let statements = [
+        "unsigned index;",
+        "waslidhaj_verdict verdict = {0, 0, 0, 0, 0xe4e4e4e4u, 0};",
+        "for (index = 0; index < 18; index++)",
+        "  printf(\"%u\", waslidhaj_alignment(verdict, index));",
+    ];
+    let program = program(&[], &statements.map(str::to_string));
+    printed_by_each("alignment", &program, &[], |printed| {
+        assert_eq!(printed, "012301230123012300");
+    });
+}
+
+#[test]
+fn every_function_is_in_the_archive() {
+    let functions = header().functions();
+    assert_eq!(functions.len(), 16, "{functions:?}");
+    let entry = |name: &String| format!("  (void (*)(void)){name},");
+    let mut before = vec!["static void (*const functions[])(void) = {".to_string()];
+    before.extend(functions.iter().map(entry));
+    before.push("};".to_string());
+    let print = "printf(\"%d\", functions[0] != functions[1]);".to_string();
+    let program = program(&before, &[print]);
+    printed_by_each("functions", &program, &[archive()], |printed| {
+        assert_eq!(printed, "1");
+    });
+}
