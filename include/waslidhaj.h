@@ -1,23 +1,30 @@
 /* Waslidhaj: a proved DMARC evaluator (RFC 9989), for programs in C and C++ that send their own DNS lookups.
  *
  * An evaluation is a value of 5,352 octets. There is no allocation, no global, no lock and no callback: copy an evaluation,
- * keep it in a queue file, drop it. Each call takes one by value and gives the one to go on with. Memory that is lent is the
- * caller's again when the call returns. Any octets in a state and any arguments get an answer; a refused call gives back the
- * very state that it got and leaves lent memory as it was.
+ * keep it in a queue file, drop it. Each call takes one by value and gives the one to go on with. Any octets in a state and any
+ * arguments get an answer; a refused call gives back the very state that it got and leaves lent memory as it was.
+ *
+ * Lent memory is the caller's own and as long as it says, and the caller's again when the call returns. It may overlap: every
+ * text is read as it was handed over. NULL may be lent with length 0.
  *
  * A message:  open, add an identifier for each SPF or DKIM outcome, then in turn: next, and an answer for the name that it
  * gives, until next gives the verdict. README.md has a whole program.
  *
- * An answer that is refused 6 (over a limit, or unreadable) leaves its name asked: hand it in again as WASLIDHAJ_ERROR, never
- * as WASLIDHAJ_NO_RECORDS. A lookup that failed or timed out is an error too. Only NXDOMAIN and an answer without TXT records
- * are WASLIDHAJ_NO_RECORDS.
+ * Look at the kind of what each call gives. Without a verdict its numbers read temperror, unknown and defer, so that a program
+ * that stops at any refusal defers. The one refusal to go on from is an answer's 6 (over a limit, or unreadable): its name is
+ * still asked, so hand it in again as WASLIDHAJ_ERROR, never as WASLIDHAJ_NO_RECORDS, and stop if that is refused too. A lookup
+ * that failed or timed out is an error. Only NXDOMAIN and an answer without TXT records are WASLIDHAJ_NO_RECORDS.
  *
- * Link with libwaslidhaj.a, which `./library` makes. */
+ * A state that is kept in a file is of one build only: keep WASLIDHAJ_VERSION beside it, and open the message afresh where it
+ * is another.
+ *
+ * Link with libwaslidhaj.a, which `./library` makes, for x86-64 Linux. */
 #ifndef WASLIDHAJ_H
 #define WASLIDHAJ_H
 
 #include <stddef.h>
 #include <stdint.h>
+#include <string.h>
 
 #ifdef __cplusplus
 extern "C" {
@@ -26,11 +33,42 @@ extern "C" {
 /* ---- Sizes ---- */
 
 enum {
-  WASLIDHAJ_DOMAIN_OCTETS = 253,   /* the most octets of a domain or a name */
-  WASLIDHAJ_SCRATCH_OCTETS = 4096, /* the scratch that an answer needs */
-  WASLIDHAJ_IDENTIFIERS = 16,      /* the most identifiers of a message */
-  WASLIDHAJ_ROWS = 256             /* the most rows of a day's list */
+  WASLIDHAJ_VERSION = 9,            /* of a state: another whenever its layout or its meaning changes */
+  WASLIDHAJ_DOMAIN_OCTETS = 253,    /* the most octets of a domain */
+  WASLIDHAJ_NAME_OCTETS = 260,      /* enough for the name that any state gives */
+  WASLIDHAJ_SCRATCH_OCTETS = 4096,  /* the scratch that an answer needs, and the most octets of an answer */
+  WASLIDHAJ_PRINTED_OCTETS = 36864, /* the most octets printed for a sheet */
+  WASLIDHAJ_IDENTIFIERS = 16,       /* the most identifiers of a message */
+  WASLIDHAJ_NAMES = 136,            /* the most names that a message asks */
+  WASLIDHAJ_ROWS = 256              /* the most rows of a day's list */
 };
+
+/* ---- Stack ---- */
+
+/* The octets of stack that a call needs at the most, with what it is handed and what it gives; and where lent memory overlaps,
+ * since that is copied:
+ *
+ *   call                      apart   overlapping
+ *   waslidhaj_open            23552
+ *   waslidhaj_add             31744
+ *   waslidhaj_next            39936
+ *   waslidhaj_answer          64512         74752
+ *   waslidhaj_result          17408
+ *   waslidhaj_field           23552
+ *   waslidhaj_name            12288
+ *   waslidhaj_domain          12288
+ *   waslidhaj_run            114688        151552
+ *   waslidhaj_finding         22528
+ *   waslidhaj_new_list         1024
+ *   waslidhaj_clear            3072          3072
+ *   waslidhaj_enter            3072          3072
+ *   waslidhaj_file_name        2048          2048
+ *   waslidhaj_write_record     2048          6144
+ *   waslidhaj_read_record     18432
+ *
+ * Add 4,096 where a program binds memcpy at its first call. Every call fits a thread of 128 KiB, but waslidhaj_run where its
+ * memory overlaps. Enough for every call but waslidhaj_run, and for that one, is: */
+enum { WASLIDHAJ_STACK_OCTETS = 81920, WASLIDHAJ_RUN_STACK_OCTETS = 163840 };
 
 /* ---- Numbers of document 01 ---- */
 
@@ -91,8 +129,8 @@ static inline unsigned waslidhaj_alignment(waslidhaj_verdict verdict, unsigned i
 enum { WASLIDHAJ_ACCEPTED, WASLIDHAJ_ASK, WASLIDHAJ_VERDICT, WASLIDHAJ_REFUSED };
 
 /* What a call gives, by its kind. Accepted: `length`, how many octets were written, for the field. Ask: the name to
- * ask, marked by `walk` and `place`; waslidhaj_name writes it out. Verdict: `verdict`. Refused: `refusal`. What its kind does
- * not have is 0. */
+ * ask, marked by `walk` and `place`; waslidhaj_name writes it out. Verdict: `verdict`. Refused: `refusal`. Without a verdict its
+ * result, policy and disposition are temperror, unknown and defer (3, 3, 3); all else that its kind does not have is 0. */
 typedef struct {
   uint8_t kind;
   size_t walk;
@@ -101,6 +139,28 @@ typedef struct {
   waslidhaj_verdict verdict;
   waslidhaj_refusal refusal;
 } waslidhaj_given;
+
+/* ---- Lent memory ---- */
+
+/* Whether two stretches of memory have an octet in common. Nothing is added up, so no length is too long. */
+static inline int waslidhaj_overlap(const void *first, size_t first_length, const void *second, size_t second_length) {
+  uintptr_t one = (uintptr_t)first;
+  uintptr_t other = (uintptr_t)second;
+  if (first_length == 0 || second_length == 0)
+    return 0;
+  return one <= other ? other - one < first_length : one - other < second_length;
+}
+
+/* Copies octets to memory apart from them. */
+static inline void waslidhaj_copy(uint8_t *to, const uint8_t *from, size_t length) {
+  if (length > 0)
+    memcpy(to, from, length);
+}
+
+/* Of the functions below that copy: none is made part of another one's stack frame. Each has room for the longest text that its
+ * call accepts, a final dot included. A longer one is refused before the output is looked at, so that is lent with length 0, and
+ * then nothing overlaps. */
+#define WASLIDHAJ_OWN_FRAME __attribute__((noinline, unused))
 
 /* ---- An evaluation ---- */
 
@@ -136,11 +196,37 @@ waslidhaj_called waslidhaj_add(waslidhaj_state state, uint8_t kind, uint8_t outc
 /* The next step: ask, the verdict, or refused 7 (nothing was opened). */
 waslidhaj_called waslidhaj_next(waslidhaj_state state);
 
+/* As waslidhaj_answer, of lent memory that nowhere overlaps. */
+waslidhaj_called waslidhaj_answer_apart(waslidhaj_state state, const uint8_t *name, size_t name_length, uint8_t status,
+                                        const uint8_t *bytes, size_t bytes_length, uint8_t *scratch, size_t scratch_length);
+
+/* As waslidhaj_answer, of copies. Refused are 5, 6 and 10, in this order: too long a name is 5, too long an answer 6. */
+static WASLIDHAJ_OWN_FRAME waslidhaj_called waslidhaj_answer_copied(waslidhaj_state state, const uint8_t *name,
+                                                                    size_t name_length, uint8_t status, const uint8_t *bytes,
+                                                                    size_t bytes_length, uint8_t *scratch,
+                                                                    size_t scratch_length) {
+  uint8_t own_name[WASLIDHAJ_NAME_OCTETS + 1];
+  uint8_t own_bytes[WASLIDHAJ_SCRATCH_OCTETS];
+  if (name_length > sizeof own_name || bytes_length > sizeof own_bytes)
+    return waslidhaj_answer_apart(state, name, name_length, status, bytes, bytes_length, scratch, 0);
+  waslidhaj_copy(own_name, name, name_length);
+  waslidhaj_copy(own_bytes, bytes, bytes_length);
+  return waslidhaj_answer_apart(state, own_name, name_length, status, own_bytes, bytes_length, scratch, scratch_length);
+}
+
 /* An answer for the name now asked, `_dmarc.` included. With WASLIDHAJ_RECORDS, `bytes` has for each TXT record the two octets
  * TX, a 16-bit length (high octet first) and the RDATA. `scratch` is lent for the texts. Accepted, or refused 5 (not the name
  * now asked), 6 (over a limit or unreadable), 10 (scratch under 4,096 octets). */
-waslidhaj_called waslidhaj_answer(waslidhaj_state state, const uint8_t *name, size_t name_length, uint8_t status,
-                                  const uint8_t *bytes, size_t bytes_length, uint8_t *scratch, size_t scratch_length);
+static inline waslidhaj_called waslidhaj_answer(waslidhaj_state state, const uint8_t *name, size_t name_length,
+                                                uint8_t status, const uint8_t *bytes, size_t bytes_length, uint8_t *scratch,
+                                                size_t scratch_length) {
+  if (status != WASLIDHAJ_RECORDS) /* the bytes are not read */
+    bytes_length = 0;
+  if (waslidhaj_overlap(name, name_length, scratch, scratch_length) ||
+      waslidhaj_overlap(bytes, bytes_length, scratch, scratch_length))
+    return waslidhaj_answer_copied(state, name, name_length, status, bytes, bytes_length, scratch, scratch_length);
+  return waslidhaj_answer_apart(state, name, name_length, status, bytes, bytes_length, scratch, scratch_length);
+}
 
 /* The verdict again, or refused 7. */
 waslidhaj_given waslidhaj_result(waslidhaj_state state);
@@ -148,8 +234,8 @@ waslidhaj_given waslidhaj_result(waslidhaj_state state);
 /* Writes the Identity-Alignment field of the verdict, CR LF included. Accepted with its length, or refused 7, 9, 10. */
 waslidhaj_given waslidhaj_field(waslidhaj_state state, uint8_t *out, size_t out_length);
 
-/* Writes the name that a walk and a place mark. 253 octets are enough for every name that a next step gives, and 260 for any
- * walk and place. Refused 10. */
+/* Writes the name that a walk and a place mark. WASLIDHAJ_NAME_OCTETS are enough for any state, walk and place; the names of an
+ * evaluation that was opened have 253 octets at the most. Refused 10. */
 waslidhaj_written waslidhaj_name(waslidhaj_state state, size_t walk, size_t place, uint8_t *out, size_t out_length);
 
 /* Writes the domain of the applied record by a verdict's `begin`. 253 octets are always enough. Refused 10. */
@@ -157,9 +243,26 @@ waslidhaj_written waslidhaj_domain(waslidhaj_state state, size_t begin, uint8_t 
 
 /* ---- A whole sheet ---- */
 
-/* Runs a sheet: gives the length of what is printed for it, which stands in `out` if there is room (36,864 octets are always
- * enough); else `out` is as it was. */
-size_t waslidhaj_run(const uint8_t *sheet, size_t sheet_length, uint8_t *out, size_t out_length);
+/* As waslidhaj_run, of lent memory that nowhere overlaps. */
+size_t waslidhaj_run_apart(const uint8_t *sheet, size_t sheet_length, uint8_t *out, size_t out_length);
+
+/* As waslidhaj_run, by way of memory of its own. */
+static WASLIDHAJ_OWN_FRAME size_t waslidhaj_run_copied(const uint8_t *sheet, size_t sheet_length, uint8_t *out,
+                                                       size_t out_length) {
+  uint8_t own_out[WASLIDHAJ_PRINTED_OCTETS];
+  size_t length = waslidhaj_run_apart(sheet, sheet_length, own_out, sizeof own_out);
+  if (length <= out_length)
+    waslidhaj_copy(out, own_out, length);
+  return length;
+}
+
+/* Runs a sheet: gives the length of what is printed for it, which stands in `out` if there is room
+ * (WASLIDHAJ_PRINTED_OCTETS are always enough); else `out` is as it was. */
+static inline size_t waslidhaj_run(const uint8_t *sheet, size_t sheet_length, uint8_t *out, size_t out_length) {
+  if (waslidhaj_overlap(sheet, sheet_length, out, out_length))
+    return waslidhaj_run_copied(sheet, sheet_length, out, out_length);
+  return waslidhaj_run_apart(sheet, sheet_length, out, out_length);
+}
 
 /* ---- A day's rows ---- */
 
@@ -218,18 +321,80 @@ waslidhaj_found waslidhaj_finding(waslidhaj_state state);
 /* A list that was never cleared. */
 waslidhaj_list waslidhaj_new_list(void);
 
-/* A day's end: the counts go to 0, and the list is named for a policy domain. Refused 11. */
-waslidhaj_list_changed waslidhaj_clear(waslidhaj_list list, const uint8_t *domain, size_t domain_length, waslidhaj_row *rows,
-                                       size_t rows_length);
+/* Whether a text and rows have an octet in common. */
+static inline int waslidhaj_overlap_rows(const uint8_t *text, size_t length, const waslidhaj_row *rows, size_t rows_length) {
+  size_t octets = rows_length > SIZE_MAX / sizeof *rows ? SIZE_MAX : rows_length * sizeof *rows;
+  return waslidhaj_overlap(text, length, rows, octets);
+}
 
-/* Enters a verdict, with the domain of its applied record. Refused 14, 27, 12, 13. */
-waslidhaj_list_changed waslidhaj_enter(waslidhaj_list list, waslidhaj_entry entry, const uint8_t *domain,
-                                       size_t domain_length, waslidhaj_row *rows, size_t rows_length);
+/* As waslidhaj_clear, of lent memory that nowhere overlaps. */
+waslidhaj_list_changed waslidhaj_clear_apart(waslidhaj_list list, const uint8_t *domain, size_t domain_length,
+                                             waslidhaj_row *rows, size_t rows_length);
+
+/* A day's end: the counts go to 0, and the list is named for a policy domain. Refused 11. */
+static inline waslidhaj_list_changed waslidhaj_clear(waslidhaj_list list, const uint8_t *domain, size_t domain_length,
+                                                     waslidhaj_row *rows, size_t rows_length) {
+  uint8_t own_domain[WASLIDHAJ_DOMAIN_OCTETS + 1];
+  if (!waslidhaj_overlap_rows(domain, domain_length, rows, rows_length))
+    return waslidhaj_clear_apart(list, domain, domain_length, rows, rows_length);
+  if (domain_length > sizeof own_domain)
+    return waslidhaj_clear_apart(list, domain, domain_length, rows, 0);
+  waslidhaj_copy(own_domain, domain, domain_length);
+  return waslidhaj_clear_apart(list, own_domain, domain_length, rows, rows_length);
+}
+
+/* As waslidhaj_enter, of lent memory that nowhere overlaps. */
+waslidhaj_list_changed waslidhaj_enter_apart(waslidhaj_list list, waslidhaj_entry entry, const uint8_t *domain,
+                                             size_t domain_length, waslidhaj_row *rows, size_t rows_length);
+
+/* Enters a verdict, with the domain of its applied record. Refused 14, 27, 12, 13: too long a domain is 14 or 27. */
+static inline waslidhaj_list_changed waslidhaj_enter(waslidhaj_list list, waslidhaj_entry entry, const uint8_t *domain,
+                                                     size_t domain_length, waslidhaj_row *rows, size_t rows_length) {
+  uint8_t own_domain[WASLIDHAJ_DOMAIN_OCTETS + 1];
+  if (!waslidhaj_overlap_rows(domain, domain_length, rows, rows_length))
+    return waslidhaj_enter_apart(list, entry, domain, domain_length, rows, rows_length);
+  if (domain_length > sizeof own_domain)
+    return waslidhaj_enter_apart(list, entry, domain, domain_length, rows, 0);
+  waslidhaj_copy(own_domain, domain, domain_length);
+  return waslidhaj_enter_apart(list, entry, own_domain, domain_length, rows, rows_length);
+}
+
+/* As waslidhaj_file_name, of lent memory that nowhere overlaps. */
+waslidhaj_written waslidhaj_file_name_apart(const uint8_t *receiver, size_t receiver_length, const uint8_t *domain,
+                                            size_t domain_length, uint64_t begin, uint64_t end, uint8_t has_id,
+                                            const uint8_t *id, size_t id_length, uint8_t *out, size_t out_length);
+
+/* As waslidhaj_file_name, of copies. Too long a text is 11. */
+static WASLIDHAJ_OWN_FRAME waslidhaj_written
+waslidhaj_file_name_copied(const uint8_t *receiver, size_t receiver_length, const uint8_t *domain, size_t domain_length,
+                           uint64_t begin, uint64_t end, uint8_t has_id, const uint8_t *id, size_t id_length, uint8_t *out,
+                           size_t out_length) {
+  uint8_t own_receiver[WASLIDHAJ_DOMAIN_OCTETS + 1];
+  uint8_t own_domain[WASLIDHAJ_DOMAIN_OCTETS + 1];
+  uint8_t own_id[64];
+  if (receiver_length > sizeof own_receiver || domain_length > sizeof own_domain || id_length > sizeof own_id)
+    return waslidhaj_file_name_apart(receiver, receiver_length, domain, domain_length, begin, end, has_id, id, id_length, out,
+                                     0);
+  waslidhaj_copy(own_receiver, receiver, receiver_length);
+  waslidhaj_copy(own_domain, domain, domain_length);
+  waslidhaj_copy(own_id, id, id_length);
+  return waslidhaj_file_name_apart(own_receiver, receiver_length, own_domain, domain_length, begin, end, has_id, own_id,
+                                   id_length, out, out_length);
+}
 
 /* Writes the file name of an aggregate report (RFC 9990, 3.5.2). The id is given where `has_id` is not 0. Refused 11, 10. */
-waslidhaj_written waslidhaj_file_name(const uint8_t *receiver, size_t receiver_length, const uint8_t *domain,
-                                    size_t domain_length, uint64_t begin, uint64_t end, uint8_t has_id, const uint8_t *id,
-                                    size_t id_length, uint8_t *out, size_t out_length);
+static inline waslidhaj_written waslidhaj_file_name(const uint8_t *receiver, size_t receiver_length, const uint8_t *domain,
+                                                    size_t domain_length, uint64_t begin, uint64_t end, uint8_t has_id,
+                                                    const uint8_t *id, size_t id_length, uint8_t *out, size_t out_length) {
+  if (has_id == 0) /* the id is not read */
+    id_length = 0;
+  if (waslidhaj_overlap(receiver, receiver_length, out, out_length) ||
+      waslidhaj_overlap(domain, domain_length, out, out_length) || waslidhaj_overlap(id, id_length, out, out_length))
+    return waslidhaj_file_name_copied(receiver, receiver_length, domain, domain_length, begin, end, has_id, id, id_length, out,
+                                      out_length);
+  return waslidhaj_file_name_apart(receiver, receiver_length, domain, domain_length, begin, end, has_id, id, id_length, out,
+                                   out_length);
+}
 
 /* ---- Policy records ---- */
 
@@ -248,9 +413,28 @@ typedef struct {
   size_t rua_length;
 } waslidhaj_record_read;
 
+/* As waslidhaj_write_record, of lent memory that nowhere overlaps. */
+waslidhaj_written waslidhaj_write_record_apart(waslidhaj_settings settings, const uint8_t *rua, size_t rua_length,
+                                               uint8_t *out, size_t out_length);
+
+/* As waslidhaj_write_record, of a copy. Too long a text is 15 or 16. */
+static WASLIDHAJ_OWN_FRAME waslidhaj_written waslidhaj_write_record_copied(waslidhaj_settings settings, const uint8_t *rua,
+                                                                           size_t rua_length, uint8_t *out,
+                                                                           size_t out_length) {
+  uint8_t own_rua[WASLIDHAJ_SCRATCH_OCTETS];
+  if (rua_length > sizeof own_rua)
+    return waslidhaj_write_record_apart(settings, rua, rua_length, out, 0);
+  waslidhaj_copy(own_rua, rua, rua_length);
+  return waslidhaj_write_record_apart(settings, own_rua, rua_length, out, out_length);
+}
+
 /* Writes a policy record. Refused 15, 16, 10. */
-waslidhaj_written waslidhaj_write_record(waslidhaj_settings settings, const uint8_t *rua, size_t rua_length,
-                                                uint8_t *out, size_t out_length);
+static inline waslidhaj_written waslidhaj_write_record(waslidhaj_settings settings, const uint8_t *rua, size_t rua_length,
+                                                       uint8_t *out, size_t out_length) {
+  if (waslidhaj_overlap(rua, rua_length, out, out_length))
+    return waslidhaj_write_record_copied(settings, rua, rua_length, out, out_length);
+  return waslidhaj_write_record_apart(settings, rua, rua_length, out, out_length);
+}
 
 /* Reads a text as a policy record. */
 waslidhaj_record_read waslidhaj_read_record(const uint8_t *text, size_t text_length);

@@ -4,7 +4,8 @@
  *   ./check example.com exists supported dkim=pass:mail.example.com
  *
  * To copy from, into a milter say: the lookups and the evaluation are all that DMARC needs; the rest reads words and prints.
- * It ends with 0 after a verdict, 1 if it could not be run, 2 for a mistake in the words, 3 if it was refused. */
+ * It ends with 0 after a verdict, 1 if it could not be run, 2 for a mistake in the words, 3 if there is no verdict: then the
+ * message is to be deferred. */
 #define _DEFAULT_SOURCE 1 /* resolv.h needs more than C99 */
 
 #include <sys/types.h>
@@ -111,7 +112,8 @@ static int set_up(res_state resolver, const char *server, int seconds) {
 
 /* ---- The evaluation ---- */
 
-/* Hands in the answer for a name. Refused 6, it is over a limit or unreadable: the name is still asked, and it is an error. */
+/* Hands in the answer for a name. Refused 6, it is over a limit or unreadable: the name is still asked, and it is an error. Any
+ * other refusal ends the evaluation, and so does one of that error. */
 static waslidhaj_called hand_in(waslidhaj_state state, const char *name, const answer *found) {
   uint8_t scratch[WASLIDHAJ_SCRATCH_OCTETS];
   const uint8_t *octets = (const uint8_t *)name;
@@ -120,30 +122,33 @@ static waslidhaj_called hand_in(waslidhaj_state state, const char *name, const a
       waslidhaj_answer(state, octets, length, found->status, found->bytes, found->length, scratch, sizeof scratch);
   if (called.given.kind == WASLIDHAJ_REFUSED && called.given.refusal.number == 6) {
     fprintf(stderr, "check: %s: the answer is over a limit or unreadable, so it is taken as an error\n", name);
-    called = waslidhaj_answer(called.state, octets, length, WASLIDHAJ_ERROR, found->bytes, 0, scratch, sizeof scratch);
+    called = waslidhaj_answer(called.state, octets, length, WASLIDHAJ_ERROR, NULL, 0, scratch, sizeof scratch);
   }
   return called;
 }
 
-/* Asks the name that an evaluation gives, and hands in what comes. */
+/* Asks the name that an evaluation gives, and hands in what comes. A name that is no C string, as a damaged state may give one,
+ * cannot be looked up, and stays asked. */
 static waslidhaj_called ask(waslidhaj_called called, res_state resolver) {
-  uint8_t name[WASLIDHAJ_DOMAIN_OCTETS + 1];
+  uint8_t name[WASLIDHAJ_NAME_OCTETS + 1];
   answer found;
   waslidhaj_written written =
-      waslidhaj_name(called.state, called.given.walk, called.given.place, name, WASLIDHAJ_DOMAIN_OCTETS);
+      waslidhaj_name(called.state, called.given.walk, called.given.place, name, WASLIDHAJ_NAME_OCTETS);
   name[written.length] = '\0';
+  if (written.refusal.number != 0 || strlen((const char *)name) != written.length)
+    return called;
   printf("ask %s\n", (const char *)name);
   look_up(resolver, (const char *)name, &found);
   return hand_in(called.state, (const char *)name, &found);
 }
 
-/* Runs an opened evaluation to its verdict. */
-static waslidhaj_called evaluate(waslidhaj_state state, res_state resolver) {
-  waslidhaj_called called = waslidhaj_next(state);
-  while (called.given.kind == WASLIDHAJ_ASK) {
-    called = ask(called, resolver);
-    if (called.given.kind != WASLIDHAJ_REFUSED)
-      called = waslidhaj_next(called.state);
+/* Runs an evaluation on as long as all is accepted: up to the verdict, or to a refusal. */
+static waslidhaj_called evaluate(waslidhaj_called called, res_state resolver) {
+  int turn;
+  for (turn = 0; turn <= WASLIDHAJ_NAMES && called.given.kind == WASLIDHAJ_ACCEPTED; turn++) {
+    called = waslidhaj_next(called.state);
+    if (called.given.kind == WASLIDHAJ_ASK)
+      called = ask(called, resolver);
   }
   return called;
 }
@@ -208,7 +213,7 @@ static waslidhaj_called open_message(char **words) {
   int support = number_of(SUPPORTS, words[2], strlen(words[2]));
   memset(&state, 0, sizeof state);
   called = waslidhaj_open(state, (const uint8_t *)words[0], strlen(words[0]), (uint8_t)existence, (uint8_t)support);
-  for (words += 3; *words != NULL && called.given.kind != WASLIDHAJ_REFUSED; words++) {
+  for (words += 3; *words != NULL && called.given.kind == WASLIDHAJ_ACCEPTED; words++) {
     identifier read = read_identifier(*words);
     called = waslidhaj_add(called.state, (uint8_t)read.kind, (uint8_t)read.outcome, (const uint8_t *)read.domain,
                            strlen(read.domain));
@@ -234,17 +239,18 @@ static void print_verdict(waslidhaj_called called, char **identifiers) {
     printf("%.*s\n", (int)field.length - 2, (const char *)out); /* without its CR LF */
 }
 
-/* Checks a message by its words, and gives the exit status. */
+/* Checks a message by its words, and gives the exit status. Without a verdict the message is to be deferred. */
 static int check(char **words, res_state resolver) {
-  waslidhaj_called called = open_message(words);
-  if (called.given.kind != WASLIDHAJ_REFUSED)
-    called = evaluate(called.state, resolver);
-  if (called.given.kind == WASLIDHAJ_REFUSED) {
-    printf("refused %u at %zu\n", called.given.refusal.number, called.given.refusal.place);
-    return 3;
+  waslidhaj_called called = evaluate(open_message(words), resolver);
+  if (called.given.kind == WASLIDHAJ_VERDICT) {
+    print_verdict(called, words + 3);
+    return 0;
   }
-  print_verdict(called, words + 3);
-  return 0;
+  if (called.given.kind == WASLIDHAJ_REFUSED)
+    printf("refused %u at %zu\n", called.given.refusal.number, called.given.refusal.place);
+  else
+    fputs("check: a name is asked that cannot be looked up\n", stderr);
+  return 3;
 }
 
 int main(int argc, char **argv) {

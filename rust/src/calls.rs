@@ -1,9 +1,9 @@
 //! The functions of the C interface, safe: a slice for each pointer and length.
 //!
 //! Any values and any octets may be handed in. A slice is lent for the call
-//! alone, its pointer is never null, and the proved code reads and writes within
-//! the lengths; this is the reason of every `unsafe` here. It is also the only
-//! module that has any.
+//! alone, its pointer is never null, one that is written overlaps no other, and
+//! the proved code reads and writes within the lengths; this is the reason of
+//! every `unsafe` here. It is also the only module that has any.
 
 use crate::raw::*;
 
@@ -29,7 +29,7 @@ pub fn next(state: State) -> Called {
 pub fn answer(state: State, name: &[u8], status: u8, bytes: &[u8], scratch: &mut [u8]) -> Called {
     // SAFETY: each slice is lent by its pointer and length.
     unsafe {
-        waslidhaj_answer(
+        waslidhaj_answer_apart(
             state,
             name.as_ptr(),
             name.len(),
@@ -70,7 +70,7 @@ pub fn domain(state: State, begin: usize, out: &mut [u8]) -> Written {
 /// the output if there is room; else the output is as it was.
 pub fn run(sheet: &[u8], out: &mut [u8]) -> usize {
     // SAFETY: both slices are lent by pointer and length.
-    unsafe { waslidhaj_run(sheet.as_ptr(), sheet.len(), out.as_mut_ptr(), out.len()) }
+    unsafe { waslidhaj_run_apart(sheet.as_ptr(), sheet.len(), out.as_mut_ptr(), out.len()) }
 }
 
 /// What is entered in a day's list of an evaluation at its verdict, or refused 7.
@@ -89,7 +89,7 @@ pub fn new_list() -> List {
 pub fn clear(list: List, domain: &[u8], rows: &mut [Row]) -> ListChanged {
     // SAFETY: both slices are lent by pointer and length.
     unsafe {
-        waslidhaj_clear(
+        waslidhaj_clear_apart(
             list,
             domain.as_ptr(),
             domain.len(),
@@ -104,7 +104,7 @@ pub fn clear(list: List, domain: &[u8], rows: &mut [Row]) -> ListChanged {
 pub fn enter(list: List, entry: Entry, domain: &[u8], rows: &mut [Row]) -> ListChanged {
     // SAFETY: both slices are lent by pointer and length.
     unsafe {
-        waslidhaj_enter(
+        waslidhaj_enter_apart(
             list,
             entry,
             domain.as_ptr(),
@@ -128,7 +128,7 @@ pub fn file_name(
 ) -> Written {
     // SAFETY: each slice is lent by its pointer and length.
     unsafe {
-        waslidhaj_file_name(
+        waslidhaj_file_name_apart(
             receiver.as_ptr(),
             receiver.len(),
             domain.as_ptr(),
@@ -148,7 +148,7 @@ pub fn file_name(
 pub fn write_record(settings: Settings, rua: &[u8], out: &mut [u8]) -> Written {
     // SAFETY: both slices are lent by pointer and length.
     unsafe {
-        waslidhaj_write_record(
+        waslidhaj_write_record_apart(
             settings,
             rua.as_ptr(),
             rua.len(),

@@ -9,7 +9,7 @@ use crate::raw::{self, Called, Given, State};
 use crate::refusal::Refusal;
 use crate::rows::Finding;
 use crate::verdict::Verdict;
-use crate::{DOMAIN_OCTETS, IDENTIFIERS};
+use crate::{IDENTIFIERS, NAME_OCTETS};
 
 /// An evaluation between two calls: a value that can be copied and kept.
 #[derive(Clone, Copy, Debug, PartialEq, Eq)]
@@ -150,13 +150,13 @@ impl Evaluation {
     }
 
     fn name(&self, walk: usize, place: usize) -> Name {
-        let mut out = [0; DOMAIN_OCTETS];
+        let mut out = [0; NAME_OCTETS];
         let written = calls::name(self.state, walk, place, &mut out);
         Name::of(out, written.length)
     }
 
     fn domain(&self, begin: usize) -> String {
-        let mut out = [0; DOMAIN_OCTETS];
+        let mut out = [0; NAME_OCTETS];
         let written = calls::domain(self.state, begin, &mut out);
         Name::of(out, written.length).to_string()
     }

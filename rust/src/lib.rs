@@ -38,9 +38,12 @@
 //!             // answer that cannot be written.
 //!             _ => Answer::Error,
 //!         };
-//!         if evaluation.answer(name, answer, &mut scratch).is_err() {
-//!             // Refused 6: over a limit, or unreadable. Its name still stands.
-//!             evaluation.answer(name, Answer::Error, &mut scratch)?;
+//!         match evaluation.answer(name, answer, &mut scratch) {
+//!             // Over a limit, or unreadable: its name still stands.
+//!             Err(refusal) if refusal.number == 6 => {
+//!                 evaluation.answer(name, Answer::Error, &mut scratch)?;
+//!             }
+//!             answered => answered?,
 //!         }
 //!     };
 //!     assert_eq!(verdict.result, DmarcResult::Pass);
@@ -93,11 +96,24 @@ pub use rows::{mapped, DayList, Finding};
 pub use sheet::{run, PRINTED_OCTETS};
 pub use verdict::Verdict;
 
-/// The most octets of a domain or a name.
+/// Of a state: another whenever its layout or its meaning changes. A state that
+/// is kept in a file is of one build only: keep this beside it, and open the
+/// message afresh where it is another.
+pub const VERSION: usize = 9;
+/// The most octets of a domain.
 pub const DOMAIN_OCTETS: usize = 253;
+/// Enough for the name that any state gives.
+pub const NAME_OCTETS: usize = 260;
 /// The scratch that an answer needs.
 pub const SCRATCH_OCTETS: usize = 4096;
 /// The most identifiers of a message.
 pub const IDENTIFIERS: usize = 16;
+/// The most names that a message asks.
+pub const NAMES: usize = 136;
 /// The most rows of a day's list.
 pub const ROWS: usize = 256;
+/// The stack that is enough for every call of the C interface but `run`. Copies of
+/// an evaluation that Rust makes on the way come on top.
+pub const STACK_OCTETS: usize = 81_920;
+/// The stack that is enough for [`run`], likewise.
+pub const RUN_STACK_OCTETS: usize = 163_840;

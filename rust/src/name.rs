@@ -2,19 +2,19 @@
 
 use std::fmt;
 
-use crate::DOMAIN_OCTETS;
+use crate::NAME_OCTETS;
 
 /// A name to ask for its TXT records, `_dmarc.` included, in lower case.
 #[derive(Clone, Copy, PartialEq, Eq)]
 pub struct Name {
-    octets: [u8; DOMAIN_OCTETS],
+    octets: [u8; NAME_OCTETS],
     length: usize,
 }
 
 impl Name {
     /// The first so many of these octets.
-    pub(crate) fn of(octets: [u8; DOMAIN_OCTETS], length: usize) -> Name {
-        let length = length.min(DOMAIN_OCTETS);
+    pub(crate) fn of(octets: [u8; NAME_OCTETS], length: usize) -> Name {
+        let length = length.min(NAME_OCTETS);
         Name { octets, length }
     }
 

@@ -1,7 +1,9 @@
 //! The values and functions of `include/waslidhaj.h`, as C has them.
 //!
 //! A flag is a `bool` here where the header says that it is 0 or 1: no other
-//! octet can be handed in. The functions are called by [`crate::calls`] alone.
+//! octet can be handed in. The functions are called by [`crate::calls`] alone,
+//! those with memory to write by their names `.._apart`: what is lent in Rust
+//! overlaps nowhere.
 
 /// A refusal: its number and its place. Number 0 is no refusal.
 #[repr(C)]
@@ -26,7 +28,7 @@ pub struct Written {
 
 /// A verdict by its numbers.
 #[repr(C)]
-#[derive(Clone, Copy, Debug, Default, PartialEq, Eq)]
+#[derive(Clone, Copy, Debug, PartialEq, Eq)]
 pub struct Verdict {
     /// 0 none, 1 pass, 2 fail, 3 temperror, 4 permerror.
     pub result: u8,
@@ -42,6 +44,20 @@ pub struct Verdict {
     pub count: usize,
 }
 
+impl Default for Verdict {
+    /// What stands where there is no verdict: temperror, unknown and defer.
+    fn default() -> Verdict {
+        Verdict {
+            result: 3,
+            policy: 3,
+            disposition: 3,
+            begin: 0,
+            alignments: 0,
+            count: 0,
+        }
+    }
+}
+
 /// A kind of what a call gives: accepted.
 pub const ACCEPTED: u8 = 0;
 /// A kind of what a call gives: a name to ask.
@@ -51,7 +67,9 @@ pub const VERDICT: u8 = 2;
 /// A kind of what a call gives: refused.
 pub const REFUSED: u8 = 3;
 
-/// What a call gives, by its kind. What its kind does not have is 0.
+/// What a call gives, by its kind. Without a verdict its result, policy and
+/// disposition are 3, which is temperror, unknown and defer; all else that its
+/// kind does not have is 0.
 #[repr(C)]
 #[derive(Clone, Copy, Debug, Default, PartialEq, Eq)]
 pub struct Given {
@@ -279,7 +297,7 @@ extern "C" {
 
     pub(crate) fn waslidhaj_next(state: State) -> Called;
 
-    pub(crate) fn waslidhaj_answer(
+    pub(crate) fn waslidhaj_answer_apart(
         state: State,
         name: *const u8,
         name_length: usize,
@@ -309,7 +327,7 @@ extern "C" {
         out_length: usize,
     ) -> Written;
 
-    pub(crate) fn waslidhaj_run(
+    pub(crate) fn waslidhaj_run_apart(
         sheet: *const u8,
         sheet_length: usize,
         out: *mut u8,
@@ -320,7 +338,7 @@ extern "C" {
 
     pub(crate) fn waslidhaj_new_list() -> List;
 
-    pub(crate) fn waslidhaj_clear(
+    pub(crate) fn waslidhaj_clear_apart(
         list: List,
         domain: *const u8,
         domain_length: usize,
@@ -328,7 +346,7 @@ extern "C" {
         rows_length: usize,
     ) -> ListChanged;
 
-    pub(crate) fn waslidhaj_enter(
+    pub(crate) fn waslidhaj_enter_apart(
         list: List,
         entry: Entry,
         domain: *const u8,
@@ -337,7 +355,7 @@ extern "C" {
         rows_length: usize,
     ) -> ListChanged;
 
-    pub(crate) fn waslidhaj_file_name(
+    pub(crate) fn waslidhaj_file_name_apart(
         receiver: *const u8,
         receiver_length: usize,
         domain: *const u8,
@@ -351,7 +369,7 @@ extern "C" {
         out_length: usize,
     ) -> Written;
 
-    pub(crate) fn waslidhaj_write_record(
+    pub(crate) fn waslidhaj_write_record_apart(
         settings: Settings,
         rua: *const u8,
         rua_length: usize,

@@ -108,3 +108,20 @@ fn the_functions_are_the_same() {
     assert_eq!(here, in_c);
     assert_eq!(here.len(), 16);
 }
+
+/// A number of the header by its name.
+fn number_in_c(name: &str) -> usize {
+    let (_, after) = HEADER
+        .split_once(&format!("WASLIDHAJ_{name} = "))
+        .expect(name);
+    let digits = after.split(|octet: char| !octet.is_ascii_digit()).next();
+    digits.expect(name).parse().expect(name)
+}
+
+#[test]
+fn the_sizes_are_the_same() {
+    assert_eq!(number_in_c("VERSION"), waslidhaj::VERSION);
+    assert_eq!(number_in_c("NAME_OCTETS"), waslidhaj::NAME_OCTETS);
+    assert_eq!(number_in_c("STACK_OCTETS"), waslidhaj::STACK_OCTETS);
+    assert_eq!(number_in_c("RUN_STACK_OCTETS"), waslidhaj::RUN_STACK_OCTETS);
+}

@@ -1,7 +1,8 @@
 //! Messages by the interface. What must come out is written by hand from the
 //! marked sheets of document 01.
 
-use waslidhaj::{records, Alignment, Answer, AppliedPolicy, Disposition, DmarcResult};
+use waslidhaj::raw::{self, State};
+use waslidhaj::{calls, records, Alignment, Answer, AppliedPolicy, Disposition, DmarcResult};
 use waslidhaj::{Evaluation, Existence, Kind, Outcome, Refusal, Step, Verdict, SCRATCH_OCTETS};
 
 const E: &str = "v=DMARC1; p=reject; sp=quarantine; np=reject; aspf=s";
@@ -138,4 +139,30 @@ fn nothing_opened() {
     };
     assert_eq!(refusal.to_string(), "refused 3 at 255");
     assert_eq!(refusal.meaning(), "a number that is not listed");
+}
+
+/// Without a verdict its numbers are temperror, unknown and defer, whatever the
+/// call was.
+#[test]
+fn no_verdict_is_defer() {
+    let opened = calls::open(State::ZEROS, b"example.com", 1, 1);
+    let asked = calls::next(opened.state);
+    let given = [
+        calls::open(State::ZEROS, b"news..example.com", 1, 1).given,
+        opened.given,
+        calls::add(opened.state, 1, 1, b"a..b").given,
+        asked.given,
+        calls::answer(asked.state, b"_dmarc.example.com", 1, b"", &mut []).given,
+        calls::result(asked.state),
+        calls::field(asked.state, &mut []),
+    ];
+    let kinds = given.map(|given| given.kind);
+    assert_eq!(kinds, [3, 0, 3, 1, 3, 3, 3]);
+    for verdict in given.map(|given| given.verdict) {
+        assert_eq!(
+            (verdict.result, verdict.policy, verdict.disposition),
+            (3, 3, 3)
+        );
+        assert_eq!(verdict, raw::Verdict::default());
+    }
 }

@@ -13,7 +13,7 @@ use Rattle.txt.specs.Answers.{Answer, texts, scratch-after}
 
 -- ------------------------------------------------------------------ what a call gives
 
--- back, where A is what the run comes to
+-- back, where A is what the run comes to: "Out: the names to ask, one at a time", and in the end that with the count
 pub data Back (A : Type 0) : Type 0 where
   ask-name : Name → Back A
   verdict : A → (count : ℕ) → Back A
@@ -51,7 +51,7 @@ kept s n r = record { taken = s .taken ++ ((n, r) ∷ []); asked = nothing }
 unfoldable pub standing : {R A : Type 0} → Lookups R A → Asking R → Standing A
 standing t s = run-over (s .taken) t
 
--- the names asked: those answered, and the one now asked
+-- the names asked: those answered, and the one now asked; "given again before its answer, it still counts as asked once"
 unfoldable pub now-asked : Option Name → List Name
 now-asked nothing = []
 now-asked (just n) = n ∷ []
@@ -95,7 +95,7 @@ take s name a r scratch = take-asked s name a r scratch (s .asked)
 
 -- ------------------------------------------------------------------ result
 
--- "7 while a name lacks an answer, else the verdict"
+-- "Result: 7 while a name lacks an answer, else the verdict; like the next step it has no lent output"
 unfoldable pub result-by : {R A : Type 0} → Asking R → Standing A → Given A
 result-by s (needs n) = given (refused (refusal 7 0)) []
 result-by s (has a) = given (verdict a (count s)) []

@@ -20,7 +20,6 @@ use Rattle.txt.specs.Answers.{Answer, answer-of, reply}
 use Rattle.asking.specs.Asking.{Back, ask-name, verdict, accepted, wrote, refused, Given, given, Asking, begun, standing, now-asked, asked-names, count, next-by, next-step, result-by, result-of, transcript, leaves}
 use Rattle.asking.specs.Claims.{Reached, at-first, by-next, by-answer, given-name, AskingClaims, AskingClaimed}
 use Rattle.asking.proofs.AskingLaws.{take-cases, held, adds-next, adds-take, result-quiet, asking-claimed}
-use Rattle.walk.proofs.Claimed.{walk-claims}
 use Rattle.verdict.specs.Message.{Message}
 use Rattle.verdict.specs.Verdict.{Verdict, evaluate, separate-walks}
 use Rattle.verdict.specs.Claims.{walked-domains, AskedAtMost}
@@ -333,7 +332,6 @@ book-claimed m o cs = record {
   asked = names-after m o cs;
   of-its-run = run-claims m o cs;
   bounded = bounded-by (book-after m cs) (run-claims m o cs);
-  each-walk = λ α. walk-claims .at-most-eight (λ n. reply (α n));
   refused-stands = stands-call (book-after m cs);
   in-time = λ e g. add-in-time (book-after m cs) g (handed-after m o cs ∙ e);
   too-late = λ e g. add-too-late (book-after m cs) g (handed-after m o cs ∙ e);

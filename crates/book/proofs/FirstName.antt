@@ -16,7 +16,7 @@ use Rattle.domain.proofs.AskedLaws.{rule-no-fault}
 use Rattle.txt.specs.declared.Reply.{Reply}
 use Rattle.txt.specs.Answers.{reply}
 use Rattle.asking.specs.Asking.{begun, standing}
-use Rattle.walk.specs.Walk.{record-at, go-on, walk-over, walk}
+use Rattle.walk.specs.Walk.{record-at, go-on, walk-over, walk, organizational-domain}
 use Rattle.verdict.specs.Message.{Message}
 use Rattle.verdict.specs.Verdict.{applied-by, applied-of-walk, applied-record, judge, evaluate, separate-walks}
 
@@ -62,3 +62,8 @@ needs-applied d e = go (can-ask d)
 pub first-name : (m : Message) → is-domain (m .author) ≡ true → (n : Name) × (standing (separate-walks m) begun ≡ needs n)
 unfolding standing begun run-over separate-walks evaluate NeedsOne no-answer find
 first-name m e = let (n, f) = needs-bind (applied-record (m .author)) (judge m) (needs-applied (m .author) e) in (n, run-reading reply (find []) (evaluate m) ∙ f)
+
+-- so has the walk of a domain that keeps the rule
+pub first-walked : (d : Domain) → is-domain d ≡ true → (n : Name) × (run-over [] (organizational-domain d) ≡ needs n)
+unfolding run-over organizational-domain walk NeedsOne no-answer find
+first-walked d e = needs-bind (walk-over (targets d)) _ (needs-walk (targets d) (some-target d e))

@@ -8,11 +8,9 @@ use Rattle.octets.specs.Octets.{Octets, any}
 use Rattle.octets.specs.Refusing.{ok, refusal}
 use Rattle.octets.specs.declared.Refusal.{Refusal}
 use Rattle.lookup.specs.Lookup.{Name, once, list, needs, Completes}
-use Rattle.domain.specs.Domain.{Domain}
 use Rattle.txt.specs.Answers.{Answer, reply}
 use Rattle.asking.specs.Asking.{Back, ask-name, verdict, accepted, wrote, refused, Given, given, with-asked, standing, asked-names, count, transcript, leaves}
 use Rattle.asking.specs.Claims.{given-name, AskingClaims}
-use Rattle.walk.specs.Walk.{organizational-domain}
 use Rattle.verdict.specs.Message.{Message}
 use Rattle.verdict.specs.Verdict.{Verdict}
 use Rattle.verdict.specs.Claims.{walked-domains}
@@ -68,15 +66,14 @@ lent (field output) = output
 pub record BookClaims (m : Message) (cs : List Call) : Type 0 where
   -- the names that the calls were given to ask, each once, are those that the book has as asked
   pub asked : asked-names (book-after m cs .run) ≡ once [] (given-names (book-gave m cs))
-  -- what is claimed of every run by calls, "about the identifiers as they then stand"
+  -- what is claimed of every run by calls: "after that demand 3 is about the identifiers as they then stand"
   pub of-its-run : AskingClaims (walks (book-after m cs)) (book-after m cs .run)
   -- "at most eight for the author domain, and eight more for each distinct passing domain that 01 says must be walked"
   pub bounded : (α : Name → Answer) → Completes α (book-after m cs .run .taken)
       → (count (book-after m cs .run) ≤ length (list α (walks (book-after m cs))))
       × (length (list α (walks (book-after m cs))) ≤ 8 + 8 * length (walked-domains (λ n. reply (α n)) (book-after m cs .message)))
-  -- each walk by itself: "at most eight for the author domain", and for every other
-  pub each-walk : (α : Name → Answer) (d : Domain) → length (list (λ n. reply (α n)) (organizational-domain d)) ≤ 8
-  -- "A refusal leaves the evaluation and lent memory unchanged"
+  -- "A refusal leaves the evaluation and lent memory unchanged"; in the mission's words, "the evaluation then stands as it did, and nothing has been
+  -- written in memory we lent"
   pub refused-stands : (c : Call) (f : Refusal) → book-call (book-after m cs) c .1 .back ≡ refused f → book-call (book-after m cs) c ≡ (book-after m cs, given (refused f) (lent c))
   -- "Identifiers may be added until the first name or the verdict has been handed out"
   pub in-time : any-handed-out (book-gave m cs) ≡ false → (g : GivenIdentifier) → book-call (book-after m cs) (add g) ≡ add-by (book-after m cs) (adding (book-after m cs .message) g)

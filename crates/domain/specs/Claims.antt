@@ -7,6 +7,7 @@ use lib.ListN.{length, drop, getD}
 use Rattle.octets.specs.Octets.{octets}
 use Rattle.domain.specs.Domain.{Domain, without-dot, is-domain, label-count, begin-of, targets, can-ask, asked-name}
 
+-- "Facts on a walk hold once for any number of labels"
 pub record WalkTargets (d : Domain) : Type 0 where
   -- "looks at the domain"
   pub starts : getD (targets d) 0 [] ≡ d

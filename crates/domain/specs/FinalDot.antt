@@ -12,7 +12,7 @@ unfoldable pub long : ℕ → Domain
 long n = join (replicate 63 97 ∷ replicate 63 97 ∷ replicate 63 97 ∷ replicate n 97 ∷ [])
 
 pub record FinalDot : Type 0 where
-  -- "`example.com.` with the root dot"
+  -- "Two resolvers hand us `example.com.` with the root dot"
   pub root : without-dot (octets "example.com.") ≡ octets "example.com"
   -- "A lone dot is still refused 1 .. at place 0"
   pub lone : domain-fault (without-dot (octets ".")) ≡ just 0

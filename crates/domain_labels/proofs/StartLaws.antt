@@ -6,10 +6,12 @@ use native.Mathlib.Decide.{decLt}
 use native.Mathlib.Omega.{arith}
 use lib.ListN.{length, drop, getD, set, replicate, length-set, getD-replicate}
 use lib.Seq.{getD-set-same, getD-set-other}
+use borrow.Author.Tests.{le-leb, lt-leb}
 use Rattle.domain.specs.Domain.{Domain, label-count, last-labels, begin-of, targets}
-use Rattle.domain_labels.specs.code.Places.{place-at, Passes, target-of, Finds}
+use Rattle.domain_labels.specs.code.Places.{target-of, target-placed, target-by, Finds}
+use Rattle.domain.specs.OnePass.{place-at, Passes}
 use Rattle.domain.specs.declared.Octet.{Octet}
-use Rattle.domain_labels.specs.declared.Starts.{Starts}
+use Rattle.domain.specs.declared.Starts.{Starts}
 use Rattle.domain.proofs.DomainLaws.{last-all, begins, begin-all, begin-dot, last-count, target-count, target-first, target-next}
 
 -- the places found where this many labels are seen, the first of them not yet whole
@@ -72,6 +74,20 @@ all-found d t f e r = record {
 
 -- ------------------------------------------------------------------ the targets of a walk
 
+-- by the places found
+module _ (begins : List Octet) (n : ℕ) where
+  pub by-none : n ≡ 0 → record { begin = record { 0 = 0 }; wider = record { 0 = 0 } } ≡ target-by begins n
+  unfolding target-by target-placed
+  by-none e = rw e
+
+  pub by-all : 8 ≤ n → record { begin = record { 0 = 0 }; wider = record { 0 = 0 } } ≡ target-by begins n
+  unfolding target-by target-placed
+  by-all h = rw (le-leb 1 n (omega arith), lt-leb n 7 (omega arith))
+
+  pub by-places : 0 < n → n < 8 → record { begin = getD begins (n - 1) (record { 0 = 0 }); wider = getD begins n (record { 0 = 0 }) } ≡ target-by begins n
+  unfolding target-by target-placed
+  by-places z h = rw (le-leb 1 n z, le-leb n 7 (omega arith))
+
 module _ (d : Domain) (n : ℕ) (z : 0 < n) (h : n ≤ length (targets d)) where
   -- with fewer than eight labels left, a target is the last labels
   target-labels : n < 8 → target-of n d ≡ last-labels n d
@@ -93,18 +109,20 @@ module _ (d : Domain) (n : ℕ) (z : 0 < n) (h : n ≤ length (targets d)) where
       let k : length (targets d) - n ≡ 0 = omega (arith, target-count d) in
       ap (λ (m : ℕ). getD (targets d) m []) k ∙ target-first d
 
-  module _ (t : Starts) (p : Passes d t) where
-    pub finds-last : n < 8 → (i j : ℕ) → i ≡ n - 1 → j ≡ n → Finds d (target-of n d) (record { begin = record { 0 = place-at (t .begins) i }; wider = record { 0 = place-at (t .begins) j } })
-    finds-last e i j f g = rw (target-labels e) (record {
-      here = let m : suc i ≡ n = omega arith in p .each i (omega arith) ∙ ap (λ (m : ℕ). begin-of (last-labels m d) d) m;
-      wider = let m : suc j ≡ label-count (last-labels n d) + 1 = omega (arith, last-count n d z (omega (arith, target-count d))) in p .each j (omega arith) ∙ ap (λ (m : ℕ). begin-of (last-labels m d) d) m;
-    })
-
-  pub finds-whole : 8 ≤ n → Finds d (target-of n d) (record { begin = record { 0 = 0 }; wider = record { 0 = 0 } })
-  finds-whole e = rw (target-whole e) (record {
-    here = begins d d 0 (omega arith) refl;
-    wider = begin-all d (label-count d + 1) (omega arith);
-  })
+  -- the target found is that of the walk
+  pub finds-target : (t : Starts) → Passes d t → Finds d (target-of n d) (target-by (t .begins) n)
+  unfolding place-at
+  finds-target t p = go (decLt n 8)
+    where
+      go : Dec (n < 8) → Finds d (target-of n d) (target-by (t .begins) n)
+      go (yes e) = rw (target-labels e, ← by-places (t .begins) n z e) (record {
+        here = let m : suc (n - 1) ≡ n = omega arith in p .each (n - 1) (omega arith) ∙ ap (λ (m : ℕ). begin-of (last-labels m d) d) m;
+        wider = let m : suc n ≡ label-count (last-labels n d) + 1 = omega (arith, last-count n d z (omega (arith, target-count d))) in p .each n e ∙ ap (λ (m : ℕ). begin-of (last-labels m d) d) m;
+      })
+      go (no e) = rw (target-whole (omega arith), ← by-all (t .begins) n (omega arith)) (record {
+        here = begins d d 0 (omega arith) refl;
+        wider = begin-all d (label-count d + 1) (omega arith);
+      })
 
 pub targets-counted : (d : Domain) (t : Starts) → Passes d t → (n : ℕ) → n ≡ min 8 (t .labels .0) → n ≡ length (targets d)
 targets-counted d t p n e = omega (arith, target-count d, p .counts)

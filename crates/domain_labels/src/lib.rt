@@ -1,19 +1,13 @@
 // Where the labels of a domain begin, found in one pass; the targets of a walk by them, and whether a target can be asked.
 ghost use mathlib.Core.Path.{_≡_};
-ghost use Prim.Native.Nat.{_<_, _≤_, min};
+ghost use Prim.Native.Nat.{min};
 ghost use lib.ListN.{length, drop};
-ghost use Rattle.domain.specs.Domain.{Domain, targets, can-ask};
-ghost use Rattle.domain_labels.specs.code.Places.{Passes, target-of, Finds};
+ghost use Rattle.domain.specs.Domain.{can-ask};
+ghost use Rattle.domain_labels.specs.code.Places.{target-by};
+ghost use Rattle.domain.specs.OnePass.{Passes};
 use domain::Labels;
 use domain::Octet;
-
-// What one pass over a domain finds: where its last 1, 2, .. 8 labels begin, how many labels it has, and the rounds of
-// the pass.
-pub struct Starts {
-    pub begins: [Octet; 8],
-    pub labels: Labels,
-    pub rounds: usize,
-}
+use domain::Starts;
 
 // A target of a walk: where it begins, and where it begins with one more label.
 #[repr(C)]
@@ -49,7 +43,7 @@ pub fn find_starts(s: &[u8]) -> Starts
 
 // How many targets a walk looks at, as many as the labels that it goes up.
 pub fn count_targets(t: Starts) -> Labels
-    ensures { λ r. ⌜ ((d : Domain) → Passes d t → r .0 ≡ length (targets d)) ⌝ }
+    ensures { λ r. ⌜ r .0 ≡ min 8 (t .labels .0) ⌝ }
 {
     let n = t.labels.0;
     if 8 < n {
@@ -58,9 +52,9 @@ pub fn count_targets(t: Starts) -> Labels
     Labels(n)
 }
 
-// The target that has n labels left; the first one has all.
+// The target that has n labels left; the first one has all. The whole domain, where a pass places no such target.
 pub fn find_target(t: Starts, n: Labels) -> Target
-    ensures { λ r. ⌜ ((d : Domain) → Passes d t → 0 < n .0 → n .0 ≤ length (targets d) → Finds d (target-of (n .0) d) r) ⌝ }
+    ensures { λ r. ⌜ r ≡ target-by (t .begins) (n .0) ⌝ }
 {
     let whole = Target {
         begin: Octet(0),

@@ -20,7 +20,8 @@ use Rattle.walk_known.specs.code.Kept.{kept-answers}
 use Rattle.alignment_stored.specs.code.Stored.{number-at, slot}
 use Rattle.verdict_judgement.specs.declared.Judgement.{Judgement}
 use Rattle.verdict_judgement.specs.declared.Judged.{Judged}
-use Rattle.verdict_judgement.specs.code.Judging.{verdict-in, Fixed, judged-standing}
+use Rattle.verdict_judgement.specs.code.Judging.{Fixed, judged-standing}
+use Rattle.verdict_judgement.specs.Reading.{verdict-in}
 use Rattle.verdict_cursor.specs.code.Cursor.{stands}
 use Rattle.evaluation.specs.declared.Evaluation.{Evaluation}
 use Rattle.evaluation.specs.declared.Step.{Step}
@@ -28,13 +29,14 @@ use Rattle.evaluation.specs.declared.Resulting.{Resulting}
 use Rattle.asking.specs.Asking.{given}
 use Rattle.book.specs.Book.{next}
 use Rattle.evaluation.specs.code.Machine.{keeps-nothing, keeps-opened, next-at, judged-by, judged-at, judged, result-back, machine-call}
-use Rattle.evaluation.specs.code.View.{message-now, replies-now, cursor-now, handed-view, view-by, view, begin-of-slot, Does, step-back, resulting-back, resulting-in, ResultFixed, DoesResult}
+use Rattle.evaluation.specs.code.View.{replies-now, cursor-now, handed-view, view-by, view, begin-of-slot, Does, resulting-in, ResultFixed, DoesResult}
+use Rattle.evaluation.specs.GivenBack.{message-now, step-back, resulting-back}
 
 -- ------------------------------------------------------------------ next step
 
 pub next-not-started : (e : Evaluation) → e .started ≡ false → Does e next e (given (step-back e (Step.Refused (refusal 7 0))) [])
 unfolding machine-call next-at view view-by keeps-nothing step-back
-next-not-started e s = record { leaves = rw s; gives = rw s; stands = λ x. refl; same-domains = λ x. (refl, refl) }
+next-not-started e s = record { leaves = rw s; gives = rw s; stands = λ x. refl; same-domains = λ x. (refl, refl); numbers = λ n. n }
 
 -- ------------------------------------------------------------------ kept answers
 
@@ -77,7 +79,7 @@ replies-length e full = kept-length (e .domains) (e .count) 136 (e .kept) full
 module _ (e : Evaluation) where
   pub result-refused : (f : Refusal) → judged (view e) ≡ not-ok f → DoesResult e (Resulting.Refused f)
   unfolding machine-call result-back resulting-back resulting-in ResultFixed
-  result-refused f h = record { does = record { leaves = refl; gives = rw h; stands = λ x. refl; same-domains = λ x. (refl, refl) }; says = sym h; fixed = tt }
+  result-refused f h = record { does = record { leaves = refl; gives = rw h; stands = λ x. refl; same-domains = λ x. (refl, refl); numbers = λ n. n }; says = sym h; fixed = tt }
 
   pub result-not-started : e .started ≡ false → DoesResult e (Resulting.Refused (refusal 7 0))
   unfolding view view-by keeps-nothing judged judged-at
@@ -108,7 +110,7 @@ module _ (e : Evaluation) where
       result-verdict j u x full n f =
           let done : judged (view e) ≡ ok (message-now e, verdict-in (message-now e) j) = rw (judged-standing-now, ← u) in
           let count : n ≡ length (view e .replies) = f ∙ sym (replies-length e full) ∙ ap length (sym replies-kept) in
-          record { does = record { leaves = refl; gives = rw (done, count); stands = λ x. refl; same-domains = λ x. (refl, refl) }; says = sym done; fixed = x }
+          record { does = record { leaves = refl; gives = rw (done, count); stands = λ x. refl; same-domains = λ x. (refl, refl); numbers = λ n. n }; says = sym done; fixed = x }
 
 -- ------------------------------------------------------------------ the target that a walk and a place mark, among the stored domains
 

@@ -277,6 +277,14 @@ module _ (m : Message) (o : Opened m) where
   unfolding book-after
   left-as-the-book v l = left-shows (opened m) (kept-opened m o) (opened-shows m v) l
 
+  -- the message and the verdict that an evaluation stands at after some calls, or 7, are the book's
+  pub judged-as-the-book : {e : Evaluation} → view e ≡ keeps-opened m → {cs : List Call} {after : Evaluation} → Left e cs after
+      → judged (view after) ≡ judged-by (book-after m cs .message) (standing (walks (book-after m cs)) (book-after m cs .run))
+  unfolding judged shows
+  judged-as-the-book v {cs = cs} l =
+      let w = left-as-the-book v l in
+      ap judged (w .keeps) ∙ judged-shown (book-after m cs) (kept-after m o cs) (w .stands-at) (w .beside)
+
   -- an evaluation that shows the book after some calls shows it after one more, which gives what the book gives
   pub does-shows : (cs : List Call) {before now : Evaluation} {c : Call} {g : Given Verdict} → Shows before (book-after m cs) → Does before c now g
       → Shows now (book-after m (cs ++ (c ∷ []))) × (g ≡ book-call (book-after m cs) c .1)

@@ -1,6 +1,5 @@
 // An accepted answer.
-ghost use Prim.Native.Nat.{_<_};
-ghost use Rattle.evaluation_keep.specs.code.Accepting.{Accepts};
+ghost use Rattle.evaluation_keep.specs.code.Accepting.{AcceptsInRoom};
 use domain::Octet;
 use evaluation::Evaluation;
 use txt::Reply;
@@ -10,7 +9,7 @@ const MOST_NAMES: usize = 136;
 
 // The evaluation with the reply kept, where there is room, to the name that a walk and a place mark, moved on from where it stood.
 pub fn accept(e: Evaluation, walk: usize, place: Octet, r: Reply) -> Evaluation
-    ensures { λ a. ⌜ (e .count < 136 → Accepts e walk place r a) ⌝ }
+    ensures { λ a. ⌜ AcceptsInRoom e walk place r a ⌝ }
 {
     if MOST_NAMES <= e.count {
         return e;

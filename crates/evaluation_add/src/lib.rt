@@ -9,7 +9,8 @@ ghost use Rattle.verdict.specs.Message.{Message};
 ghost use Rattle.asking.specs.Asking.{given};
 ghost use Rattle.book.specs.Start.{is-spf, with-identifier, adding};
 ghost use Rattle.book.specs.Book.{add};
-ghost use Rattle.evaluation.specs.code.View.{Does, acceptance-back};
+ghost use Rattle.evaluation.specs.code.View.{Does};
+ghost use Rattle.evaluation.specs.GivenBack.{acceptance-back};
 ghost use Rattle.evaluation_open.specs.code.Opening.{Holds, Opens};
 use alignment::Kind;
 use evaluation::Acceptance;
@@ -37,7 +38,7 @@ fn has_spf(numbers: &[u16], count: usize) -> bool
 fn store(e: Evaluation, kind: u8, outcome: u8, d: &[u8]) -> Evaluation
     requires { ⌜ e .terms .identifiers < 16 ⌝ }
     requires { ⌜ length (now d) ≤ 253 ⌝ }
-    ensures { λ r. ⌜ ((m : Message) → Holds e m → Holds r (with-identifier m (record { kind = kind-in kind; outcome = outcome-in outcome; domain = lower (now (d .entry)) }))) ⌝ }
+    ensures { λ r. ⌜ ((m : Message) → Holds e m → Holds r (with-identifier m (record { kind = kind-in kind; outcome = outcome-in outcome; domain = lower (now (d .entry)) }))) × (r .stored ≡ e .stored) ⌝ }
 {
     let given = e.terms;
     let existence = given.existence;
@@ -62,7 +63,7 @@ fn store(e: Evaluation, kind: u8, outcome: u8, d: &[u8]) -> Evaluation
 
 // Adds an identifier to an evaluation that holds a message and nothing more.
 fn add_to(e: Evaluation, kind: u8, outcome: u8, domain: &[u8]) -> Changed
-    ensures { λ r. ⌜ ((m : Message) → Holds e m → Opens e (adding m (record { kind = kind; outcome = outcome; domain = now (domain .entry) })) r) ⌝ }
+    ensures { λ r. ⌜ ((m : Message) → Holds e m → Opens e (e .stored) (adding m (record { kind = kind; outcome = outcome; domain = now (domain .entry) })) r) ⌝ }
 {
     let terms = e.terms;
     let index = text_parts::smaller(terms.identifiers, 16);

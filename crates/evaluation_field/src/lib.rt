@@ -2,7 +2,8 @@
 ghost use mathlib.Core.Path.{_≡_};
 ghost use Rattle.octets.specs.Octets.{Octets};
 ghost use Rattle.octets.specs.Lent.{WritesIf};
-ghost use Rattle.verdict_judgement.specs.code.Judging.{stored-message, verdict-in};
+ghost use Rattle.verdict_judgement.specs.code.Judging.{stored-message};
+ghost use Rattle.verdict_judgement.specs.Reading.{verdict-in};
 ghost use Rattle.asking.specs.Asking.{given};
 ghost use Rattle.book.specs.Book.{field, back-of, passed-or-failed, field-of};
 ghost use Rattle.evaluation.specs.code.View.{Does};

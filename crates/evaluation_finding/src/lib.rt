@@ -1,7 +1,8 @@
 // What is entered in a day's rows of an evaluation that stands at its verdict.
 ghost use mathlib.Core.Path.{_≡_};
 ghost use Rattle.octets.specs.Octets.{Octets};
-ghost use Rattle.verdict_judgement.specs.code.Judging.{stored-message, verdict-in};
+ghost use Rattle.verdict_judgement.specs.code.Judging.{stored-message};
+ghost use Rattle.verdict_judgement.specs.Reading.{verdict-in};
 ghost use Rattle.rows.specs.Rows.{finding-of};
 ghost use Rattle.evaluation_finding.specs.code.Entering.{Finds};
 use domain::Octet;

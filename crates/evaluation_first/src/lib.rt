@@ -1,12 +1,10 @@
 // Where the next step is.
-ghost use mathlib.Core.Path.{_≡_};
-ghost use mathlib.Core.Bool.{true};
 ghost use Rattle.evaluation_first.specs.code.Pointing.{Points};
 use evaluation::Evaluation;
 
-// An opened evaluation at its next step, with the name asked that it lacks there: where it stands, or where it begins.
+// An evaluation at its next step, with the name asked that it lacks there: where it stands, or where it begins.
 pub fn point(e: Evaluation) -> Evaluation
-    ensures { λ r. ⌜ (e .started ≡ true → Points e r) ⌝ }
+    ensures { λ r. ⌜ Points e r ⌝ }
 {
     let mut after = e;
     after.asked = true;

@@ -58,7 +58,7 @@ fn number_verdict(v: Verdict) -> VerdictNumbers
 
 // Numbers of a kind, with nothing more.
 fn blank(kind: u8) -> GivenNumbers
-    ensures { λ r. ⌜ r ≡ record { kind = kind; walk = 0; place = record { 0 = 0 }; length = 0; verdict = record { result = 0; policy = 0; disposition = 0; begin = record { 0 = 0 }; alignments = 0; count = 0 }; refusal = record { number = 0; place = 0 } } ⌝ }
+    ensures { λ r. ⌜ r ≡ record { kind = kind; walk = 0; place = record { 0 = 0 }; length = 0; verdict = record { result = 3; policy = 3; disposition = 3; begin = record { 0 = 0 }; alignments = 0; count = 0 }; refusal = record { number = 0; place = 0 } } ⌝ }
 {
     GivenNumbers {
         kind,
@@ -66,9 +66,9 @@ fn blank(kind: u8) -> GivenNumbers
         place: Octet(0),
         length: 0,
         verdict: VerdictNumbers {
-            result: 0,
-            policy: 0,
-            disposition: 0,
+            result: 3,
+            policy: 3,
+            disposition: 3,
             begin: Octet(0),
             alignments: 0,
             count: 0,

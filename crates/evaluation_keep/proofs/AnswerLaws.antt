@@ -24,17 +24,18 @@ use Rattle.walk_known.specs.code.Kept.{kept-answers}
 use Rattle.alignment_stored.specs.code.Stored.{slot}
 use Rattle.verdict_cursor.specs.declared.Position.{Position}
 use Rattle.verdict_cursor.specs.code.Cursor.{stands, needed}
-use Rattle.verdict_cursor.specs.code.Standing.{Moves}
+use Rattle.verdict_cursor.specs.code.Standing.{OnlyThese, Moves}
 use Rattle.verdict_cursor.specs.code.Positions.{place-in}
 use Rattle.asking.specs.Asking.{given, refused}
 use Rattle.book.specs.Book.{answer}
 use Rattle.evaluation.specs.declared.Evaluation.{Evaluation}
 use Rattle.evaluation.specs.declared.Acceptance.{Acceptance}
 use Rattle.evaluation.specs.code.Machine.{Keeps, keeps-nothing, keeps-opened, moved, keeping, answer-taken, has-room, answer-at, machine-call}
-use Rattle.evaluation.specs.code.View.{message-now, replies-now, cursor-now, asked-now, handed-view, view-by, view, marked, changing, Does, acceptance-back}
+use Rattle.evaluation.specs.code.View.{replies-now, cursor-now, asked-now, handed-view, view-by, view, numbers-kept, Numbered, changing, Does}
+use Rattle.evaluation.specs.GivenBack.{message-now, marked, acceptance-back}
 use Rattle.evaluation.proofs.CallLaws.{replies-length}
 use Rattle.evaluation_keep.specs.code.Asking.{answered}
-use Rattle.evaluation_keep.specs.code.Accepting.{Accepts}
+use Rattle.evaluation_keep.specs.code.Accepting.{NumberedNow, Accepts}
 
 just≢nothing : {n : Name} → just n ≡ nothing → ⊥
 just≢nothing e = false≢true (ap (λ (o : Option Name). elim o as (λ _. Bool) [ nothing ↦ true | just n ↦ false ]) e)
@@ -129,7 +130,7 @@ module _ (e : Evaluation) where
       unfolding machine-call acceptance-back
       answer-not-now h =
           let by = refused-by name (view e) (answer-of status bytes) scratch (view e .asked) (sym (answered-view name) ∙ h) in
-          record { leaves = rw by; gives = rw by; stands = λ x. refl; same-domains = λ x. (refl, refl) }
+          record { leaves = rw by; gives = rw by; stands = λ x. refl; same-domains = λ x. (refl, refl); numbers = λ n. n }
 
       module _ {n : Name} (now : answered-in name ≡ just n) (after : Octets) where
         answer-takes : (t : Taken) → Takes (answer-of status bytes) scratch t after → machine-call (view e) (answer name status bytes scratch) ≡ answer-taken (view e) n after t
@@ -140,7 +141,7 @@ module _ (e : Evaluation) where
         unfolding answer-taken acceptance-back
         answer-refused f takes =
             let by = answer-takes (Taken.Refused f) takes in
-            record { leaves = rw by; gives = rw by; stands = λ x. refl; same-domains = λ x. (refl, refl) }
+            record { leaves = rw by; gives = rw by; stands = λ x. refl; same-domains = λ x. (refl, refl); numbers = λ n. n }
 
       module _ (walk : ℕ) (place : Octet) (now : answered-in name ≡ just (marked e walk place)) (after : Octets) (r : Reply) (later : Evaluation) (accepts : Accepts e walk place r later) where
         now-live : (e .started ≡ true) × (e .handed ≡ true) × (e .count < 136)
@@ -166,11 +167,15 @@ module _ (e : Evaluation) where
         unfolding handed-view keeping moved
         kept-on = rw (shown-later, shown, same-message, none-asked, accepts .cursor, accepts .replies)
 
+        numbered-on : Numbered e → Numbered later
+        unfolding Numbered handed-view numbers-kept cursor-now NumberedNow OnlyThese
+        numbered-on n = rw shown-later (accepts .numbered (rw shown at n))
+
         pub answer-accepted : Takes (answer-of status bytes) scratch (Taken.Reply r) after → Does e (answer name status bytes scratch) later (given (acceptance-back Acceptance.Accepted) after)
         unfolding answer-taken acceptance-back changing
         answer-accepted takes =
             let by = answer-takes now after (Taken.Reply r) takes in
-            record { leaves = kept-on ∙ rw by; gives = rw by; stands = λ x. absurd (false≢true (sym x)); same-domains = λ x. (accepts .domains, accepts .numbers) }
+            record { leaves = kept-on ∙ rw by; gives = rw by; stands = λ x. absurd (false≢true (sym x)); same-domains = λ x. (accepts .domains, accepts .numbers); numbers = numbered-on }
 
 -- ------------------------------------------------------------------ the reply kept, and where it stands moved on
 
@@ -178,5 +183,6 @@ pub accepts-moved : (e : Evaluation) (walk : ℕ) (place : Octet) (r : Reply) (k
     → kept-answers (e .domains) (e .count + 1) kept ≡ kept-answers (e .domains) (e .count) (e .kept) ++ ((asked-name (drop (place .0) (slot (e .domains) (e .numbers) walk)), r) ∷ [])
     → Moves (e .domains) (e .numbers) (e .terms) (kept-answers (e .domains) (e .count + 1) kept) (e .stored) (place-in (e .position)) r stored (place-in stands)
     → Accepts e walk place r (record { started = e .started; handed = e .handed; asked = false; domains = e .domains; numbers = e .numbers; terms = e .terms; kept = kept; count = e .count + 1; stored = stored; position = stands })
-unfolding message-now replies-now cursor-now marked
-accepts-moved e walk place r kept stored stands more moves = record { started = refl; handed = refl; asked = refl; domains = refl; numbers = refl; terms = refl; replies = more; cursor = moves }
+unfolding message-now replies-now cursor-now marked NumberedNow
+accepts-moved e walk place r kept stored stands more moves =
+    record { started = refl; handed = refl; asked = refl; domains = refl; numbers = refl; terms = refl; replies = more; cursor = moves .place; numbered = moves .only }

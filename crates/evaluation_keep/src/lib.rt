@@ -1,13 +1,10 @@
 // The name that an answer is for, and the reply kept.
 ghost use mathlib.Core.Path.{_≡_};
-ghost use mathlib.Core.List.{List, [], _∷_, _++_};
+ghost use mathlib.Core.List.{List};
 ghost use mathlib.Core.Bool.{_&&_};
-ghost use Prim.Native.Nat.{ℕ, _+_, _≤_, _<_};
+ghost use Prim.Native.Nat.{ℕ, _+_, _≤_};
 ghost use lib.Dec.{ltb};
-ghost use lib.ListN.{length, drop, set};
-ghost use Rattle.domain.specs.Domain.{asked-name};
-ghost use Rattle.walk_known.specs.code.Kept.{kept-answers};
-ghost use Rattle.alignment_stored.specs.code.Stored.{slot};
+ghost use lib.ListN.{length, set};
 ghost use Rattle.verdict_judgement.specs.code.Judging.{stored-message};
 ghost use Rattle.verdict_cursor.specs.code.Cursor.{stands, needed};
 ghost use Rattle.verdict_cursor.specs.code.Standing.{cursor-in};
@@ -15,6 +12,7 @@ ghost use Rattle.verdict_cursor.specs.code.Positions.{place-in};
 ghost use Rattle.verdict_ahead.specs.code.Waits.{waiting-name};
 ghost use Rattle.evaluation.specs.code.View.{begin-of-slot};
 ghost use Rattle.evaluation_keep.specs.code.Asking.{answered};
+ghost use Rattle.evaluation_keep.specs.code.Accepting.{KeepsReply};
 use domain::Octet;
 use txt::Reply;
 use verdict_ahead::Waiting;
@@ -98,7 +96,7 @@ pub fn keep_reply<'a>(
     count: usize,
     kept: &mut [u16; 408],
 )
-    ensures { λ _. ⌜ (count < 136 → (kept-answers (now (domains .entry)) (count + 1) (now (kept .exit)) ≡ kept-answers (now (domains .entry)) count (now (kept .entry)) ++ ((asked-name (drop (place .0) (slot (now (domains .entry)) (now (numbers .entry)) walk)), r) ∷ [])) × (length (now (kept .exit)) ≡ 408)) ⌝ }
+    ensures { λ _. ⌜ KeepsReply (now (domains .entry)) (now (numbers .entry)) walk place r count (now (kept .entry)) (now (kept .exit)) ⌝ }
 {
     if MOST_NAMES <= count {
         return;

@@ -2,16 +2,17 @@
 use mathlib.Core.Path.{_≡_, refl, ap, sym, _∙_}
 use mathlib.Core.List.{List, _∷_}
 use mathlib.Core.Bool.{Bool, true, false}
-use Prim.Native.Nat.{ℕ, suc, _+_, _-_, _/_, _%_, _<_}
+use Prim.Native.Nat.{ℕ, zero, suc, _+_, _-_, _/_, _%_, _<_}
 use native.Mathlib.Omega.{arith}
 use lib.Dec.{eqb}
-use borrow.Author.Tests.{eqb-true}
-use Rattle.octets.specs.Octets.{Octets, any, if_then_else_}
+use lib.ListN.{List·getD-eq-default}
+use borrow.Author.Tests.{ne-eqb}
+use Rattle.octets.specs.Octets.{Octets, any}
 use Rattle.alignment.specs.declared.Kind.{Kind}
 use Rattle.alignment.specs.declared.Alignment.{Alignment}
 use Rattle.alignment.specs.Alignments.{Identifier, is-aligned}
 use Rattle.alignment_stored.specs.code.Stored.{kind-at, identifier-at, stored-identifiers}
-use Rattle.alignment_settle.specs.code.Tallies.{alignment-of, alignments-in}
+use Rattle.alignment.specs.Numbers.{alignment-numbers, alignment-of, alignments-in}
 use Rattle.alignment_stored.proofs.StoredLaws.{next-identifier}
 use Rattle.evaluation_methods.specs.declared.Methods.{Methods}
 use Rattle.book.specs.Book.{of-kind, any-aligned}
@@ -20,14 +21,13 @@ use Rattle.evaluation_methods.specs.code.Methods.{add-method, method-in,
 -- a digit says aligned exactly if it is 1
 aligned-digit : (x : ℕ) → eqb x 1 ≡ is-aligned (alignment-of x)
 unfolding is-aligned alignment-of
-aligned-digit x = go (eqb x 0) refl (eqb x 1) refl (eqb x 2)
-  where
-    go : (a : Bool) → eqb x 0 ≡ a → (b : Bool) → eqb x 1 ≡ b → (c : Bool)
-        → b ≡ is-aligned (if a then Alignment.NotJudged else if b then Alignment.Aligned else if c then Alignment.NotAligned else Alignment.Unknown)
-    go true e b f c = sym f ∙ rw (eqb-true x 0 e)
-    go false e true f c = refl
-    go false e false f true = refl
-    go false e false f false = refl
+aligned-digit zero = refl
+aligned-digit (suc zero) = refl
+aligned-digit (suc (suc zero)) = refl
+aligned-digit (suc (suc (suc zero))) = refl
+aligned-digit (suc (suc (suc (suc x)))) =
+    let unlisted : alignment-of (suc (suc (suc (suc x)))) ≡ Alignment.Unknown = List·getD-eq-default alignment-numbers Alignment.Unknown {n = suc (suc (suc (suc x)))} (omega arith) in
+    ne-eqb (suc (suc (suc (suc x)))) 1 (omega arith) ∙ ap is-aligned (sym unlisted)
 
 -- one identifier more in front
 module _ (i : Identifier) (is : List Identifier) (a : Alignment) (found-alignments : List Alignment) where

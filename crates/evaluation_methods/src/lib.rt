@@ -4,7 +4,7 @@ ghost use mathlib.Core.Bool.{_||_};
 ghost use Prim.Native.Nat.{_≤_, _+_, min};
 ghost use Rattle.octets.specs.Octets.{Octets};
 ghost use Rattle.alignment_stored.specs.code.Stored.{stored-identifiers};
-ghost use Rattle.alignment_settle.specs.code.Tallies.{alignments-in};
+ghost use Rattle.alignment.specs.Numbers.{alignments-in};
 ghost use Rattle.evaluation_methods.specs.code.Methods.{add-method, methods-of};
 use alignment::Kind;
 use reporting::Method;

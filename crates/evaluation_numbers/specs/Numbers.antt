@@ -26,7 +26,8 @@ use Rattle.evaluation.specs.declared.Step.{Step}
 use Rattle.evaluation.specs.declared.Resulting.{Resulting}
 use Rattle.evaluation.specs.declared.Acceptance.{Acceptance}
 use Rattle.evaluation.specs.code.Machine.{Keeps}
-use Rattle.evaluation.specs.code.View.{Does, DoesNext, DoesResult, Changes, acceptance-back}
+use Rattle.evaluation.specs.code.View.{Does, DoesNext, DoesResult, Changes}
+use Rattle.evaluation.specs.GivenBack.{acceptance-back}
 use Rattle.evaluation_open.specs.code.Opening.{existence-in}
 use Rattle.evaluation_finding.specs.declared.Found.{Found}
 use Rattle.evaluation_finding.specs.code.Entering.{Finds}
@@ -118,10 +119,11 @@ verdict-numbers v = record {
   count = v .count;
 }
 
--- ------------------------------------------------------------------ what a call gives; what its kind does not have is 0
+-- ------------------------------------------------------------------ what a call gives; what its kind does not have is 0, but for a verdict
 
+-- without one its numbers read temperror, unknown, defer: none would let a message in
 abbrev no-verdict : VerdictNumbers
-no-verdict = record { result = 0; policy = 0; disposition = 0; begin = record { 0 = 0 }; alignments = 0; count = 0 }
+no-verdict = record { result = 3; policy = 3; disposition = 3; begin = record { 0 = 0 }; alignments = 0; count = 0 }
 
 unfoldable pub accepted-numbers : (length : ℕ) → GivenNumbers
 accepted-numbers n = record { kind = 0; walk = 0; place = record { 0 = 0 }; length = n; verdict = no-verdict; refusal = refusal 0 0 }

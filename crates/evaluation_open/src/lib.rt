@@ -2,7 +2,7 @@
 ghost use mathlib.Core.Path.{_≡_};
 ghost use mathlib.Core.List.{[]};
 ghost use Prim.Native.Nat.{_≤_};
-ghost use lib.ListN.{length};
+ghost use lib.ListN.{length, replicate};
 ghost use Rattle.octets.specs.Octets.{lower};
 ghost use Rattle.book.specs.Start.{opening};
 ghost use Rattle.evaluation.specs.code.View.{Changes, opened-view};
@@ -25,10 +25,10 @@ pub fn read_existence(n: u8) -> Existence
     }
 }
 
-// An evaluation that holds a message without identifiers, and nothing more.
+// An evaluation that holds a message without identifiers, and nothing more: nothing is stored of its walks.
 fn hold(e: Evaluation, author: &[u8], existence: u8, support: bool) -> Evaluation
     requires { ⌜ length (now author) ≤ 253 ⌝ }
-    ensures { λ r. ⌜ Holds r (record { author = lower (now (author .entry)); existence = existence-in existence; support = support; identifiers = [] }) ⌝ }
+    ensures { λ r. ⌜ Holds r (record { author = lower (now (author .entry)); existence = existence-in existence; support = support; identifiers = [] }) × (r .stored ≡ replicate 17 0) ⌝ }
 {
     let terms = Terms {
         existence: read_existence(existence),
@@ -46,6 +46,7 @@ fn hold(e: Evaluation, author: &[u8], existence: u8, support: bool) -> Evaluatio
     after.started = true;
     after.handed = false;
     after.asked = false;
+    after.stored = [0u16; 17];
     after
 }
 

@@ -4,3 +4,4 @@ pub mod TagLaws
 pub mod ValueLaws
 pub mod Claimed
 pub mod NumbersBack
+pub mod RecordExamples

@@ -2,3 +2,4 @@
 pub mod Publishing
 pub mod Claims
 pub mod Numbers
+pub mod RecordExamples

@@ -56,7 +56,7 @@ tag-values s rua =
 unfoldable pub tag-text : String × Octets → Octets
 tag-text t = if is-empty (t .1) then [] else octets "; " ++ octets (t .0) ++ octets "=" ++ t .1
 
--- "`v=DMARC1`, then .."
+-- "From the chosen policies, modes, psd, t and a rua text, write the record: `v=DMARC1`, then .."
 unfoldable pub record-octets : Settings → (rua : Octets) → Octets
 record-octets s rua = octets "v=DMARC1" ++ flatten (map tag-text (tag-values s rua))
 
@@ -75,7 +75,7 @@ good-entries rua =
 unfoldable pub good-rua : Octets → Bool
 good-rua rua = is-empty rua || good-entries rua
 
--- 15 "`p` absent or a policy setting invalid", which is not usable; "order 15, 16, 10"
+-- 15 "`p` absent or a policy setting invalid", which is not usable; "order 15, 16, 10"; "A later number's place is 0"
 unfoldable pub written-record : Settings → (rua : Octets) → OrRefused Octets
 written-record s rua = do
   _ ← refuse-if (not (usable s)) (refusal 15 0)

@@ -1,4 +1,5 @@
--- Daily rows of one policy domain (document 02, Ask 1 and, for a final dot, Ask 5): what clearing a list and entering a verdict give.
+-- Daily rows of one policy domain (document 02, Ask 1 and, for a final dot, Ask 5): what clearing a list and entering a verdict give. "The report room
+-- wants each day's verdicts gathered".
 use mathlib.Core.List.{List, [], _∷_, _++_, map}
 use mathlib.Core.Bool.{Bool, false, _&&_, not, Bool·beq}
 use mathlib.Core.Option.{Option, none as nothing, some as just}
@@ -26,7 +27,7 @@ use Rattle.rows.specs.declared.Entry.{Entry}
 unfoldable pub is-free : Row → Bool
 is-free r = eqb (r .count) 0
 
--- equal "source address .., disposition, whether DKIM aligned, whether SPF aligned"
+-- equal "source address (16 octets, IPv4 mapped), disposition, whether DKIM aligned, whether SPF aligned"; that IPv4 is mapped is the caller's to see to
 unfoldable pub same-seen : Seen → Seen → Bool
 same-seen a b =
     same (a .source) (b .source)
@@ -38,12 +39,13 @@ same-seen a b =
 unfoldable pub is-match : Seen → Row → Bool
 is-match s r = not (is-free r) && same-seen s (r .seen)
 
+-- "and a message count"
 unfoldable pub with-count : ℕ → Row → Row
 with-count n r = record { seen = r .seen; count = n }
 
 -- ------------------------------------------------------------------ the list
 
--- "Up to 256 rows", "Rows past the 256th are no part of the list"
+-- "Up to 256 rows are lent as one list of row records"; "Rows past the 256th are no part of the list"
 unfoldable pub on-list : List Row → List Row
 on-list rows = take 256 rows
 
@@ -131,7 +133,7 @@ cleared d l = do
   _ ← refuse-if (not (is-domain (without-dot d))) (refusal 11 0)
   ok (record { domain = just (lower (without-dot d)); rows = map (with-count 0) (on-list (l .rows)) ++ past-list (l .rows) })
 
--- of the verdict and the domain of its applied record: "order 14, 27, 12, 13"
+-- of the verdict and the domain of its applied record: "order 14, 27, 12, 13"; "A later number's place is 0 unless its request says more"
 unfoldable pub entered : Entry → Octets → Listing → OrRefused Listing
 entered e d l = do
   _ ← refuse-if (not (is-judged (e .finding))) (refusal 14 0)

@@ -83,9 +83,9 @@ pub fn run(sheet: &[u8], out: &mut [u8]) -> Written
 }
 
 // For programs in other languages: how long the text is that is printed for a sheet. It is written into the front of lent
-// memory where there is room.
+// memory where there is room, and which the sheet does not overlap: the C header's `waslidhaj_run` sees to it.
 #[no_mangle]
-pub extern "C" fn waslidhaj_run(sheet: &[u8], out: &mut [u8]) -> usize
+pub extern "C" fn waslidhaj_run_apart(sheet: &[u8], out: &mut [u8]) -> usize
     ensures { λ r. ⌜ (r ≡ length (printed (now (sheet .entry)))) × (now (out .exit) ≡ left (printed (now (sheet .entry))) (now (out .entry))) ⌝ }
 {
     match run(sheet, out) {

@@ -2,7 +2,7 @@
 ghost use mathlib.Core.Path.{_≡_};
 ghost use Prim.Native.Nat.{_≤_};
 ghost use lib.ListN.{length, take};
-ghost use Rattle.evaluation.specs.code.View.{marked};
+ghost use Rattle.evaluation.specs.GivenBack.{marked};
 ghost use Rattle.sheet_turn.specs.code.Conversing.{TakesTurn, AsksName};
 use domain::Octet;
 use evaluation::Acceptance;

@@ -36,7 +36,7 @@ unfolding onto
 onto-there s nothing = refl
 onto-there s (just t) = refl
 
-onto-text : (s : Octets) (o : Option Octets) → is-there (onto s o) ≡ true → or-empty (onto s o) ≡ s ++ or-empty o
+pub onto-text : (s : Octets) (o : Option Octets) → is-there (onto s o) ≡ true → or-empty (onto s o) ≡ s ++ or-empty o
 unfolding onto
 onto-text s nothing r = absurd (false≢true r)
 onto-text s (just t) r = refl

@@ -76,7 +76,7 @@ module _ (l : Octets) (k : ℕ) (e : k ≡ getD l 0 0) (h : 0 < length l) where
   pub past-the-end : length l < k + 1 → is-there (joined 0 l) ≡ false
   past-the-end r = rw (first-short l h (rw (← e) r))
 
-  apart : k + 1 ≤ length l → joined 0 l ≡ onto (part 1 (k + 1) l) (joined 0 (rest (k + 1) l))
+  pub apart : k + 1 ≤ length l → joined 0 l ≡ onto (part 1 (k + 1) l) (joined 0 (rest (k + 1) l))
   apart r =
       let q : k + 1 - 1 ≡ k = omega arith in
       rw (q, rest-of l (k + 1), e) (first-string l h (rw (← e) r))
@@ -93,7 +93,7 @@ module _ (l : Octets) (k : ℕ) (e : k ≡ getD l 0 0) (h : 0 < length l) where
         go true p = leb-true (k + 1) (length l) p
         go false p = absurd (false≢true (sym (past-the-end (leb-false (k + 1) (length l) p)) ∙ room .reads))
 
-    string-length : k ≡ length (part 1 (k + 1) l)
+    pub string-length : k ≡ length (part 1 (k + 1) l)
     string-length =
         let q : k + 1 - 1 ≡ k = omega arith in
         rw (q, length-take-le k (drop 1 l) (omega (arith, string-within, length-drop 1 l)))

@@ -18,15 +18,17 @@ fn copy_strings(strings: &[u8], out: &mut [u8]) -> usize
     requires { ⌜ Room (joined 0 (now strings)) (now out) ⌝ }
     ensures { λ r. ⌜ Copies (joined 0 (now (strings .entry))) (now (out .entry)) r (now (out .exit)) ⌝ }
 {
-    if strings.len() == 0 {
-        return 0;
+    let mut rest = strings;
+    let mut at: usize = 0;
+    while 0 < rest.len() {
+        let k = txt_read::wide(rest[0]);
+        let next = k + 1;
+        // The unfilled part is lent on for the next string.
+        octets_write::write(&rest[1..next], &mut out[at..]);
+        at = at + k;
+        rest = &rest[next..];
     }
-    let k = txt_read::wide(strings[0]);
-    let next = k + 1;
-    octets_write::write(&strings[1..next], out);
-    // The unfilled part is lent on for the next string.
-    let rest = copy_strings(&strings[next..], &mut out[k..]);
-    k + rest
+    at
 }
 
 // Copies the texts of a readable answer to the front of the scratch, and finds the policy records among them.

@@ -58,6 +58,6 @@ pub record ErrorClaims (v w : Verdict) : Type 0 where
   -- and a message that fails over the real answers never passes, nor gets none or permerror, because a lookup failed
   pub fails : w .result ≡ Result.Fail → failed-or-temperror (v .result) ≡ true
 
--- for every message and two such sets
+-- "The platforms want it shown: take one message and two sets of answers": for every message and two such sets
 unfoldable pub ErrorsMended : Type 0
 ErrorsMended = (m : Message) (α β : Name → Answer) → Mends α β → ErrorClaims (value α (separate-walks m)) (value β (separate-walks m))

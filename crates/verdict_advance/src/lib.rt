@@ -20,7 +20,7 @@ pub fn begin<'a>(
     t: Terms,
     stored: &mut [u16; 17],
 ) -> Position
-    ensures { λ at. ⌜ Begins (now (domains .entry)) (now (numbers .entry)) t (kept-answers (now (domains .entry)) count (now (kept .entry))) (now (stored .exit)) (place-in at) ⌝ }
+    ensures { λ at. ⌜ Begins (now (domains .entry)) (now (numbers .entry)) t (kept-answers (now (domains .entry)) count (now (kept .entry))) (now (stored .entry)) (now (stored .exit)) (place-in at) ⌝ }
 {
     let author = alignment_stored::slot(domains, numbers, 0);
     match walk_known::look_at(domains, kept, count, author, Octet(0)) {

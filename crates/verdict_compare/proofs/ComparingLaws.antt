@@ -1,5 +1,5 @@
 -- What the proofs of the functions that compare identifiers cite.
-use mathlib.Core.Path.{_≡_, refl, sym, _∙_}
+use mathlib.Core.Path.{_≡_, refl, sym, subst}
 use mathlib.Core.List.{List, [], _∷_, _++_}
 use mathlib.Core.Bool.{Bool, true, false}
 use mathlib.Core.Option.{none as nothing}
@@ -15,7 +15,7 @@ use Rattle.txt.specs.declared.Reply.{Reply}
 use Rattle.alignment.specs.Alignments.{Identifier, settled-alignment}
 use Rattle.alignment_stored.specs.code.Stored.{slot, identifier-at, stored-identifiers}
 use Rattle.alignment_stored.proofs.StoredLaws.{next-identifier}
-use Rattle.walk.specs.Stored.{Stored, stored-domain}
+use Rattle.walk_progress.specs.code.Stored.{Stored, stored-domain}
 use Rattle.walk_progress.specs.code.Reaching.{Reached, pauses, over, reach}
 use Rattle.walk_progress.specs.code.Stops.{reached-in}
 use Rattle.walk_progress.specs.declared.Stop.{Stop}
@@ -27,8 +27,8 @@ use Rattle.verdict_judgement.specs.code.Judging.{stored-message}
 use Rattle.verdict_cursor.specs.declared.Ruling.{Ruling}
 use Rattle.verdict_cursor.specs.declared.Place.{Place}
 use Rattle.verdict_cursor.specs.code.Cursor.{Cursor, cursor, on-identifier, is-walked, compare-reached, compare-on}
-use Rattle.verdict_cursor.specs.code.Standing.{stored-at, passed-from, given-count, verdict-by, judged-at, cursor-in}
-use Rattle.verdict_cursor.proofs.PassedLaws.{passed-grown, author-set, compare-passed, compare-over, compare-pauses}
+use Rattle.verdict_cursor.specs.code.Standing.{stored-at, NoneFrom, passed-from, given-count, verdict-by, judged-at, cursor-in, OnlyThese, StandsAt, ComparesFrom}
+use Rattle.verdict_cursor.proofs.PassedLaws.{passed-grown, author-set, only-passed, stands-same, compare-passed, compare-over, compare-pauses}
 use Rattle.verdict_pass.specs.declared.Passing.{Passing}
 use Rattle.verdict_pass.specs.code.Passing.{Passed, pauses-at, stores, passed-by, passed-at, passed-in}
 use Rattle.verdict_compare.specs.code.Comparing.{ComparesAfter}
@@ -75,6 +75,10 @@ module _ (domains : Octets) (numbers : List ℕ) (t : Terms) (β : Answers Reply
   abbrev pub after-walk : List ℕ → (walk : ℕ) → Passed → Cursor
   after-walk stored walk = after-passed β message (drop (r .begin .0) (message .author)) (r .settings) (r .policy) (stored-at stored 0) (passed-from domains numbers stored 1 (walk - 1)) (identifier-at domains numbers walk) (stored-identifiers domains numbers (walk + 1) (count - walk))
 
+  -- from the same walk on
+  pub compares-same : (before after : List ℕ) (p : Place) {w v : ℕ} → ComparesFrom domains numbers t β before r w after p → w ≡ v → ComparesFrom domains numbers t β before r v after p
+  compares-same before after p c e = subst (λ (w : ℕ). ComparesFrom domains numbers t β before r w after p) e c
+
   module _ (stored : List ℕ) (walk : ℕ) where
     -- past the last one
     pub judged : count < walk → walk ≤ count + 1 → cursor-in domains numbers t stored (Place.Judged r) ≡ comparing stored walk
@@ -84,11 +88,16 @@ module _ (domains : Octets) (numbers : List ℕ) (t : Terms) (β : Answers Reply
         let all : walk - 1 ≡ count = omega arith in
         rw (none, all)
 
+    pub judged-only : count < walk → walk ≤ count + 1 → NoneFrom walk stored → OnlyThese domains numbers t stored (Place.Judged r)
+    unfolding OnlyThese cursor-in judged-at NoneFrom
+    judged-only h k z = only-passed domains numbers stored count (λ j l. z j (omega arith)) _
+
     -- its walk has come so far
-    pub compares-after : (w : Reach) (after : List ℕ) (p : Place) → cursor-in domains numbers t after p ≡ after-walk stored walk (passed-by (slot domains numbers walk) (reached-in (slot domains numbers walk) w)) → ComparesAfter domains numbers t β stored r walk w after p
+    pub compares-after : (w : Reach) (after : List ℕ) (p : Place) → StandsAt domains numbers t (NoneFrom walk stored) after p (after-walk stored walk (passed-by (slot domains numbers walk) (reached-in (slot domains numbers walk) w)))
+        → ComparesAfter domains numbers t β stored r walk w after p
     unfolding identifier-at
     compares-after w after p e =
-        e ∙ sym (after-reached β message (drop (r .begin .0) (message .author)) (r .settings) (r .policy) (stored-at stored 0) (passed-from domains numbers stored 1 (walk - 1)) (identifier-at domains numbers walk) (stored-identifiers domains numbers (walk + 1) (count - walk)) (reached-in (slot domains numbers walk) w))
+        stands-same e (sym (after-reached β message (drop (r .begin .0) (message .author)) (r .settings) (r .policy) (stored-at stored 0) (passed-from domains numbers stored 1 (walk - 1)) (identifier-at domains numbers walk) (stored-identifiers domains numbers (walk + 1) (count - walk)) (reached-in (slot domains numbers walk) w)))
 
     module _ (h : 1 ≤ walk) where
       -- its number stored
@@ -111,3 +120,7 @@ module _ (domains : Octets) (numbers : List ℕ) (t : Terms) (β : Answers Reply
         pub stopped : (s : Stop) → cursor-in domains numbers t stored (Place.Identifier r walk s) ≡ after-walk stored walk (passed-in (slot domains numbers walk) (Passing.Stops s))
         unfolding cursor-in passed-in after-passed
         stopped s = rw (le-leb 1 walk h, le-leb walk count k)
+
+        pub stopped-only : (s : Stop) → NoneFrom walk stored → OnlyThese domains numbers t stored (Place.Identifier r walk s)
+        unfolding OnlyThese cursor-in NoneFrom
+        stopped-only s z = rw (le-leb 1 walk h, le-leb walk count k) (only-passed domains numbers stored (walk - 1) (λ j l. z j (omega arith)) _)

@@ -1,11 +1,11 @@
 // The identifiers compared, in the given order.
 ghost use mathlib.Core.Path.{_≡_};
-ghost use Prim.Native.Nat.{_+_, _≤_, _<_};
+ghost use Prim.Native.Nat.{_+_, _<_, min};
 ghost use lib.ListN.{length, set};
 ghost use Rattle.walk_known.specs.code.Kept.{kept-answers};
 ghost use Rattle.verdict_cursor.specs.code.Standing.{given-count, ComparesFrom};
 ghost use Rattle.verdict_cursor.specs.code.Positions.{place-in};
-ghost use Rattle.verdict_compare.specs.code.Comparing.{ComparesAfter};
+ghost use Rattle.verdict_compare.specs.code.Comparing.{ComparesWalk};
 use verdict_cursor::Position;
 use verdict_cursor::Ruling;
 use verdict_judgement::Terms;
@@ -20,7 +20,7 @@ fn store(stored: &mut [u16], walk: usize, number: u16)
     stored[walk] = number;
 }
 
-// The identifiers from a walk's on.
+// The identifiers after those of so many walks.
 pub fn compare<'a>(
     domains: &'a [u8],
     numbers: &'a [u16],
@@ -28,15 +28,15 @@ pub fn compare<'a>(
     count: usize,
     t: Terms,
     ruling: Ruling,
-    from: usize,
+    passed: usize,
     stored: &mut [u16; 17],
 ) -> Position
-    ensures { λ p. ⌜ (1 ≤ from → from ≤ given-count (now (domains .entry)) (now (numbers .entry)) t + 1 → ComparesFrom (now (domains .entry)) (now (numbers .entry)) t (kept-answers (now (domains .entry)) count (now (kept .entry))) (now (stored .entry)) ruling from (now (stored .exit)) (place-in p)) ⌝ }
+    ensures { λ p. ⌜ ComparesFrom (now (domains .entry)) (now (numbers .entry)) t (kept-answers (now (domains .entry)) count (now (kept .entry))) (now (stored .entry)) ruling (min passed (given-count (now (domains .entry)) (now (numbers .entry)) t) + 1) (now (stored .exit)) (place-in p) ⌝ }
 {
     let s = ruling.settings;
     let author = stored[0];
     let last = text_parts::smaller(t.identifiers, 16);
-    let mut walk = from;
+    let mut walk = text_parts::smaller(passed, last) + 1;
     while walk <= last {
         match verdict_pass::pass_at(domains, numbers, kept, count, s, author, walk) {
             Passing::Stops(stop) => {
@@ -51,7 +51,7 @@ pub fn compare<'a>(
     verdict_place::judged(ruling)
 }
 
-// The identifiers from a walk's on, whose own has come so far.
+// The identifiers from a walk's on, whose own has come so far. Where no identifier has that walk, nothing is compared.
 pub fn compare_after<'a>(
     domains: &'a [u8],
     numbers: &'a [u16],
@@ -63,16 +63,19 @@ pub fn compare_after<'a>(
     w: Reach,
     stored: &mut [u16; 17],
 ) -> Position
-    ensures { λ p. ⌜ (1 ≤ walk → walk ≤ given-count (now (domains .entry)) (now (numbers .entry)) t → ComparesAfter (now (domains .entry)) (now (numbers .entry)) t (kept-answers (now (domains .entry)) count (now (kept .entry))) (now (stored .entry)) ruling walk w (now (stored .exit)) (place-in p)) ⌝ }
+    ensures { λ p. ⌜ ComparesWalk (now (domains .entry)) (now (numbers .entry)) t (kept-answers (now (domains .entry)) count (now (kept .entry))) (now (stored .entry)) ruling walk w (now (stored .exit)) (place-in p) ⌝ }
 {
-    if 16 < walk {
+    if walk < 1 {
+        return verdict_place::judged(ruling);
+    }
+    if text_parts::smaller(t.identifiers, 16) < walk {
         return verdict_place::judged(ruling);
     }
     match verdict_pass::pass(alignment_stored::slot(domains, numbers, walk), w) {
         Passing::Stops(stop) => verdict_place::identifier(ruling, walk, stop),
         Passing::Passes(number) => {
             store(stored, walk, number);
-            compare(domains, numbers, kept, count, t, ruling, walk + 1, stored)
+            compare(domains, numbers, kept, count, t, ruling, walk, stored)
         }
     }
 }

@@ -11,14 +11,16 @@ use Rattle.domain.specs.declared.Octet.{Octet}
 use Rattle.alignment.specs.declared.Alignment.{Alignment}
 use Rattle.alignment_settle.specs.declared.Tally.{Tally}
 use Rattle.alignment_stored.specs.code.Stored.{slot}
-use Rattle.alignment_settle.specs.code.Tallies.{alignment-digits, alignments-in, tally-of}
+use Rattle.alignment_settle.specs.code.Tallies.{alignment-digits, tally-of}
+use Rattle.alignment.specs.Numbers.{alignments-in}
 use Rattle.verdict.specs.declared.Result.{Result}
 use Rattle.verdict.specs.declared.AppliedPolicy.{AppliedPolicy}
 use Rattle.verdict_judgement.specs.declared.Terms.{Terms}
 use Rattle.verdict_judgement.specs.declared.Judged.{Judged}
 use Rattle.verdict.specs.Message.{Message}
 use Rattle.verdict.specs.Verdict.{result-of, result-with, verdict-of, unjudged}
-use Rattle.verdict_judgement.specs.code.Judging.{stored-message, tally-result, judgement, verdict-in, as-numbers, Fixed, judged-standing, JudgedFixed, Concludes}
+use Rattle.verdict_judgement.specs.code.Judging.{stored-message, tally-result, judgement, as-numbers, Fixed, judged-standing, JudgedFixed, Concludes}
+use Rattle.verdict_judgement.specs.Reading.{verdict-in}
 use Rattle.verdict_cursor.specs.declared.Ruling.{Ruling}
 use Rattle.verdict_cursor.specs.code.Stage.{concluded}
 use Rattle.verdict_cursor.specs.code.Cursor.{read-alignment, alignments-read}

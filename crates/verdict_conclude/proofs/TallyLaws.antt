@@ -5,12 +5,13 @@ use Prim.Native.Nat.{ℕ, zero, suc, _+_, _*_, _/_, _%_}
 use native.Mathlib.Omega.{arith}
 use lib.ListN.{length}
 use Rattle.octets.specs.Octets.{Octets, any}
-use Rattle.walk.specs.Stored.{Stored}
+use Rattle.walk_progress.specs.code.Stored.{Stored}
 use Rattle.alignment.specs.declared.Alignment.{Alignment}
 use Rattle.alignment_settle.specs.declared.Tally.{Tally}
 use Rattle.alignment.specs.Alignments.{Identifier, is-aligned, is-unknown, is-temporary}
 use Rattle.alignment_stored.specs.code.Stored.{identifier-at, stored-identifiers}
-use Rattle.alignment_settle.specs.code.Tallies.{alignment-code, alignment-of, alignment-digits, alignments-in, no-tally, tally-with, tally-of}
+use Rattle.alignment_settle.specs.code.Tallies.{alignment-code, alignment-digits, no-tally, tally-with, tally-of}
+use Rattle.alignment.specs.Numbers.{alignment-of, alignments-in}
 use Rattle.verdict_cursor.specs.code.Standing.{passed-from}
 
 -- ------------------------------------------------------------------ alignments as digits

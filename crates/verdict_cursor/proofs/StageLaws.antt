@@ -125,6 +125,22 @@ module _ (β : Answers Reply) (m : Message) where
   unfolding align align-by _>>=_
   compared-ended s o i w e f = rw e (follows-bind {f = λ x. done (compared o x)} {g = λ x. done (compared o x)} (organizes-ended (i .domain) w f) λ x. follows-self _)
 
+  -- the applied record: by the reply at the author's own name, and by a walk that has ended
+  pub applied-own : can-ask (m .author) ≡ true → (r : Reply) → find β (asked-name (m .author)) ≡ just r → Follows β (applied-record (m .author)) (applied-by (m .author) r)
+  applied-own a r e = follows-on (follows-same (record-asked a)) (follows-known (asked-name (m .author)) (applied-by (m .author)) r e)
+    where
+      record-asked : can-ask (m .author) ≡ true → applied-record (m .author) ≡ ask (asked-name (m .author)) (applied-by (m .author))
+      record-asked e = unfold applied-record record-at _>>=_ in rw e
+
+  pub applied-skipped : can-ask (m .author) ≡ false → Follows β (applied-record (m .author)) (applied-by (m .author) Reply.NoRecord)
+  unfolding applied-record record-at _>>=_
+  applied-skipped e = follows-same (rw e)
+
+  pub applied-ended : {s : Option Summary} → KeptWalk β (m .author) (ended s) → Follows β (applied-record (m .author)) (applied-by (m .author) Reply.NoRecord)
+      → Follows β (applied-record (m .author)) (done (applied-in s))
+  unfolding left-of _>>=_
+  applied-ended w f = follows-on f (follows-on (follows-same (applied-summary (m .author))) (follows-bind (w .follows) λ x. follows-self _))
+
   pub stage-claims : StageClaims β m
   unfolding left left-of align align-by _>>=_ align-each run-over run concluded
   stage-claims = record {

@@ -23,7 +23,7 @@ pub fn complete<'a>(
     w: Reach,
     stored: &mut [u16; 17],
 ) -> Position
-    ensures { λ p. ⌜ Completes (now (domains .entry)) (now (numbers .entry)) t (kept-answers (now (domains .entry)) count (now (kept .entry))) ruling w (now (stored .exit)) (place-in p) ⌝ }
+    ensures { λ p. ⌜ Completes (now (domains .entry)) (now (numbers .entry)) t (kept-answers (now (domains .entry)) count (now (kept .entry))) ruling w (now (stored .entry)) (now (stored .exit)) (place-in p) ⌝ }
 {
     match w {
         Reach::Stops(stop) => verdict_place::completing(ruling, stop),
@@ -43,7 +43,7 @@ fn judge<'a>(
     o: Organization,
     stored: &mut [u16; 17],
 ) -> Position
-    ensures { λ p. ⌜ Judges (now (domains .entry)) (now (numbers .entry)) t (kept-answers (now (domains .entry)) count (now (kept .entry))) begin settings o (now (stored .exit)) (place-in p) ⌝ }
+    ensures { λ p. ⌜ Judges (now (domains .entry)) (now (numbers .entry)) t (kept-answers (now (domains .entry)) count (now (kept .entry))) begin settings o (now (stored .entry)) (now (stored .exit)) (place-in p) ⌝ }
 {
     let existence = t.existence;
     match force_policies::in_force(settings) {
@@ -82,7 +82,7 @@ pub fn found<'a>(
     w: Reach,
     stored: &mut [u16; 17],
 ) -> Position
-    ensures { λ p. ⌜ Finds (now (domains .entry)) (now (numbers .entry)) t (kept-answers (now (domains .entry)) count (now (kept .entry))) w (now (stored .exit)) (place-in p) ⌝ }
+    ensures { λ p. ⌜ Finds (now (domains .entry)) (now (numbers .entry)) t (kept-answers (now (domains .entry)) count (now (kept .entry))) w (now (stored .entry)) (now (stored .exit)) (place-in p) ⌝ }
 {
     match w {
         Reach::Stops(stop) => verdict_place::author(stop),

@@ -3,7 +3,7 @@ ghost use mathlib.Core.Path.{_≡_};
 ghost use Rattle.walk_known.specs.code.Kept.{kept-answers};
 ghost use Rattle.walk_progress.specs.code.Stops.{reached-in};
 ghost use Rattle.verdict_cursor.specs.code.Positions.{place-in};
-ghost use Rattle.verdict_own.specs.code.Own.{halted-in, gone-in, JudgesOwn, Owns};
+ghost use Rattle.verdict_own.specs.code.Own.{gone-in, JudgesOwn, Owns};
 use domain::Octet;
 use domain_labels::Target;
 use force::InForce;
@@ -16,17 +16,7 @@ use walk_progress::Applicable;
 use walk_progress::Reach;
 use walk_progress::Turned;
 
-// How far a walk has gone after the turn at its domain itself.
-fn halted(d: &[u8], turned: Turned) -> Reach
-    ensures { λ r. ⌜ reached-in (now (d .entry)) r ≡ halted-in (now (d .entry)) turned ⌝ }
-{
-    match turned {
-        Turned::Over(w) => w,
-        Turned::On(last) => walk_reach::halt(d, last),
-    }
-}
-
-// How far it goes over the answers kept.
+// How far a walk goes over the answers kept, after the turn at its domain itself.
 fn gone<'a>(domains: &'a [u8], kept: &'a [u16], count: usize, d: &'a [u8], turned: Turned) -> Reach
     ensures { λ r. ⌜ reached-in (now (d .entry)) r ≡ gone-in (kept-answers (now (domains .entry)) count (now (kept .entry))) (now (d .entry)) turned ⌝ }
 {
@@ -36,8 +26,8 @@ fn gone<'a>(domains: &'a [u8], kept: &'a [u16], count: usize, d: &'a [u8], turne
     }
 }
 
-// The author's own record, whose settings are in force. The author's walk is completed only where some identifier must be
-// walked.
+// The author's own record, whose settings are in force, where the author's walk has come so far. It is completed only where
+// some identifier must be walked.
 fn judge_own<'a>(
     domains: &'a [u8],
     numbers: &'a [u16],
@@ -45,10 +35,10 @@ fn judge_own<'a>(
     count: usize,
     t: Terms,
     settings: Settings,
-    turned: Turned,
+    w: Reach,
     stored: &mut [u16; 17],
 ) -> Position
-    ensures { λ p. ⌜ JudgesOwn (now (domains .entry)) (now (numbers .entry)) t (kept-answers (now (domains .entry)) count (now (kept .entry))) settings turned (now (stored .exit)) (place-in p) ⌝ }
+    ensures { λ p. ⌜ JudgesOwn (now (domains .entry)) (now (numbers .entry)) t (kept-answers (now (domains .entry)) count (now (kept .entry))) settings w (now (stored .entry)) (now (stored .exit)) (place-in p) ⌝ }
 {
     let author = alignment_stored::slot(domains, numbers, 0);
     let existence = t.existence;
@@ -60,10 +50,8 @@ fn judge_own<'a>(
         policy,
     };
     if alignment_settle::any_must_walk(domains, numbers, author, settings, t.identifiers) {
-        let w = gone(domains, kept, count, author, turned);
         return verdict_found::complete(domains, numbers, kept, count, t, ruling, w, stored);
     }
-    let w = halted(author, turned);
     verdict_author::compare_all(domains, numbers, kept, count, t, ruling, w, stored)
 }
 
@@ -77,7 +65,7 @@ fn apply_own<'a>(
     settings: Settings,
     stored: &mut [u16; 17],
 ) -> Position
-    ensures { λ p. ⌜ Owns (now (domains .entry)) (now (numbers .entry)) t (kept-answers (now (domains .entry)) count (now (kept .entry))) (Reply.Record settings) (now (stored .exit)) (place-in p) ⌝ }
+    ensures { λ p. ⌜ Owns (now (domains .entry)) (now (numbers .entry)) t (kept-answers (now (domains .entry)) count (now (kept .entry))) (Reply.Record settings) (now (stored .entry)) (now (stored .exit)) (place-in p) ⌝ }
 {
     let author = alignment_stored::slot(domains, numbers, 0);
     let begin = Octet(0);
@@ -86,14 +74,13 @@ fn apply_own<'a>(
         wider: begin,
     };
     let turned = walk_turn::turn(author, at, Applicable::Nothing, Reply::Record(settings));
+    let w = gone(domains, kept, count, author, turned);
     match force_policies::in_force(settings) {
         InForce::NotUsable => {
-            verdict_author::store(domains, numbers, halted(author, turned), stored);
+            verdict_author::store(domains, numbers, w, stored);
             verdict_place::not_usable(begin)
         }
-        InForce::Usable(used) => {
-            judge_own(domains, numbers, kept, count, t, used, turned, stored)
-        }
+        InForce::Usable(used) => { judge_own(domains, numbers, kept, count, t, used, w, stored) }
     }
 }
 
@@ -107,7 +94,7 @@ pub fn own<'a>(
     r: Reply,
     stored: &mut [u16; 17],
 ) -> Position
-    ensures { λ p. ⌜ Owns (now (domains .entry)) (now (numbers .entry)) t (kept-answers (now (domains .entry)) count (now (kept .entry))) r (now (stored .exit)) (place-in p) ⌝ }
+    ensures { λ p. ⌜ Owns (now (domains .entry)) (now (numbers .entry)) t (kept-answers (now (domains .entry)) count (now (kept .entry))) r (now (stored .entry)) (now (stored .exit)) (place-in p) ⌝ }
 {
     match r {
         Reply::Error => {

@@ -1,14 +1,12 @@
 // One identifier compared.
 ghost use mathlib.Core.Path.{_≡_};
-ghost use Prim.Native.Nat.{_≤_};
-ghost use lib.ListN.{length};
 ghost use Rattle.alignment.specs.Alignments.{settled-alignment};
 ghost use Rattle.alignment_stored.specs.code.Stored.{slot, identifier-at};
-ghost use Rattle.walk.specs.Stored.{stored-domain};
+ghost use Rattle.walk_progress.specs.code.Stored.{stored-domain};
 ghost use Rattle.walk_known.specs.code.Kept.{kept-answers};
 ghost use Rattle.walk_progress.specs.code.Stops.{reached-in, stored-of};
 ghost use Rattle.verdict_cursor.specs.code.Cursor.{is-walked};
-ghost use Rattle.verdict_pass.specs.code.Passing.{passed-by, passed-at, passed-in};
+ghost use Rattle.verdict_pass.specs.code.Passing.{passed-by, passed-within, passed-at, passed-in};
 use alignment_settle::Settled;
 use policy::Settings;
 use walk_progress::Reach;
@@ -43,7 +41,7 @@ fn is_walked<'a>(
 
 // An identifier whose walk has come so far.
 pub fn pass(d: &[u8], w: Reach) -> Passing
-    ensures { λ r. ⌜ (length (now (d .entry)) ≤ 253 → passed-in (now (d .entry)) r ≡ passed-by (now (d .entry)) (reached-in (now (d .entry)) w)) ⌝ }
+    ensures { λ r. ⌜ passed-in (now (d .entry)) r ≡ passed-within (passed-by (now (d .entry)) (reached-in (now (d .entry)) w)) ⌝ }
 {
     let number = walk_turn::stored_number(d, w);
     match w {

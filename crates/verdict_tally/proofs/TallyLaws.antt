@@ -10,7 +10,7 @@ use borrow.Author.Tests.{ne-eqb}
 use Rattle.octets.specs.Octets.{Octets}
 use Rattle.domain.specs.Domain.{Domain}
 use Rattle.policy.specs.declared.Settings.{Settings}
-use Rattle.walk.specs.Stored.{stored-domain}
+use Rattle.walk_progress.specs.code.Stored.{stored-domain}
 use Rattle.walk_progress.specs.code.Stops.{stored-of}
 use Rattle.alignment.specs.declared.Alignment.{Alignment}
 use Rattle.alignment_settle.specs.declared.Tally.{Tally}

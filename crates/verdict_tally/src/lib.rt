@@ -5,7 +5,7 @@ ghost use mathlib.Core.Bool.{_||_};
 ghost use mathlib.Core.Option.{none};
 ghost use Prim.Native.Nat.{_<_};
 ghost use lib.ListN.{getD};
-ghost use Rattle.walk.specs.Stored.{stored-domain};
+ghost use Rattle.walk_progress.specs.code.Stored.{stored-domain};
 ghost use Rattle.walk_progress.specs.code.Stops.{stored-of};
 ghost use Rattle.alignment.specs.Alignments.{is-aligned, is-unknown, is-temporary};
 ghost use Rattle.alignment_stored.specs.code.Stored.{slot, identifier-at};

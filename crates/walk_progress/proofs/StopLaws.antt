@@ -16,7 +16,7 @@ use Rattle.domain_labels.specs.code.Places.{target-of, Finds}
 use Rattle.domain_labels.specs.declared.Target.{Target}
 use Rattle.txt.specs.declared.Reply.{Reply}
 use Rattle.walk.specs.Walk.{Found}
-use Rattle.walk.specs.Stored.{still-open}
+use Rattle.walk_progress.specs.code.Stored.{still-open}
 use Rattle.walk_progress.specs.declared.Organization.{Organization}
 use Rattle.walk_progress.specs.code.Summary.{summary-in}
 use Rattle.walk_progress.specs.code.Turns.{last-summary, one-more}

@@ -2,7 +2,7 @@
 ghost use mathlib.Core.Path.{_≡_};
 ghost use Rattle.walk_known.specs.code.Kept.{kept-answers};
 ghost use Rattle.walk_progress.specs.code.Summary.{found-in};
-ghost use Rattle.walk_progress.specs.code.Reaching.{reach, halts, later-targets};
+ghost use Rattle.walk_progress.specs.code.Reaching.{reach, later-targets};
 ghost use Rattle.walk_progress.specs.code.Stops.{reached-in, ReachesWhole, ReachesAfter};
 use domain::Labels;
 use txt::Reply;
@@ -56,21 +56,4 @@ pub fn reach_after<'a>(
             walk_step::reach_from(domains, kept, count, d, starts, next, more)
         }
     }
-}
-
-// The walk after its domain itself, where it looks at no answer for now.
-pub fn halt(d: &[u8], last: Applicable) -> Reach
-    ensures { λ r. ⌜ reached-in (now (d .entry)) r ≡ halts (now (d .entry)) (later-targets (now (d .entry))) (found-in (now (d .entry)) last) ⌝ }
-{
-    let starts = domain_labels::find_starts(d);
-    let left = domain_labels::count_targets(starts).0 - 1;
-    if left == 0 {
-        return walk_end::end_at(last);
-    }
-    let target = domain_labels::find_target(starts, Labels(left));
-    Reach::Stops(Stop {
-        last,
-        target,
-        more: Labels(left - 1),
-    })
 }

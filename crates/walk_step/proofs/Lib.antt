@@ -1,2 +1,2 @@
--- Laws for the proofs of this crate.
-mod StepLaws
+-- Laws of a walk over its last targets.
+pub mod StepLaws

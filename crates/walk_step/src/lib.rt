@@ -1,10 +1,8 @@
 // A walk over the kept answers: at one target, and over its last ones.
-ghost use Rattle.domain_labels.specs.code.Places.{Passes};
 ghost use Rattle.walk_known.specs.code.Kept.{kept-answers};
-ghost use Rattle.walk_progress.specs.code.Stops.{ReachesFrom};
-ghost use Rattle.walk_step.specs.code.Steps.{Steps};
+ghost use Rattle.walk_step.specs.code.Steps.{Steps, ReachesPlaced};
 use domain::Labels;
-use domain_labels::Starts;
+use domain::Starts;
 use domain_labels::Target;
 use walk_known::Looked;
 use walk_progress::Applicable;
@@ -31,7 +29,7 @@ fn step<'a>(
     }
 }
 
-// The walk over its last targets, from a record found before them. `starts` is from a pass over the domain.
+// The walk over its last targets, from a record found before them, where `starts` places them.
 pub fn reach_from<'a>(
     domains: &'a [u8],
     kept: &'a [u16],
@@ -41,7 +39,7 @@ pub fn reach_from<'a>(
     first: Applicable,
     left: Labels,
 ) -> Reach
-    ensures { λ r. ⌜ (Passes (now (d .entry)) starts → ReachesFrom (kept-answers (now (domains .entry)) count (now (kept .entry))) (now (d .entry)) first (left .0) r) ⌝ }
+    ensures { λ r. ⌜ ReachesPlaced (kept-answers (now (domains .entry)) count (now (kept .entry))) (now (d .entry)) starts first (left .0) r ⌝ }
 {
     let mut last = first;
     let mut more = text_parts::smaller(left.0, domain_labels::count_targets(starts).0);

@@ -1,2 +1,2 @@
--- Laws for the proofs of this crate.
-mod TurnLaws
+-- Laws of one turn of a walk, and of the number stored of it.
+pub mod TurnLaws

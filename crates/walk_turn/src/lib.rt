@@ -1,11 +1,10 @@
 // One turn of a walk, and the number stored of it.
 ghost use mathlib.Core.Path.{_≡_};
-ghost use Prim.Native.Nat.{_≤_};
-ghost use lib.ListN.{length};
 ghost use Rattle.txt.specs.declared.Reply.{Reply};
 ghost use Rattle.walk_progress.specs.code.Progress.{stored-in};
 ghost use Rattle.walk_progress.specs.code.Reaching.{progress-of};
 ghost use Rattle.walk_progress.specs.code.Stops.{reached-in, stored-of, Turns};
+ghost use Rattle.walk_turn.specs.code.Storing.{within-253};
 use domain_labels::Target;
 use policy::Psd;
 use policy::Settings;
@@ -41,9 +40,9 @@ pub fn turn(d: &[u8], at: Target, last: Applicable, r: Reply) -> Turned
 }
 
 // The number stored of a walk: 0 while it is open, 1 after an error, else two more than where the organizational domain
-// begins.
+// begins; 0 too where that is past 253.
 pub fn stored_number(d: &[u8], w: Reach) -> u16
-    ensures { λ n. ⌜ (length (now (d .entry)) ≤ 253 → stored-of n ≡ stored-in (now (d .entry)) (progress-of (reached-in (now (d .entry)) w))) ⌝ }
+    ensures { λ n. ⌜ stored-of n ≡ within-253 (stored-in (now (d .entry)) (progress-of (reached-in (now (d .entry)) w))) ⌝ }
 {
     match w {
         Reach::Stops(_) => 0,

@@ -16,9 +16,9 @@ pub extern "C" fn waslidhaj_next(state: State) -> Called
     evaluation_lent::go_on(state, stepped.evaluation, given)
 }
 
-// An answer for the name now asked.
+// An answer for the name now asked. What is lent nowhere overlaps: the C header's `waslidhaj_answer` sees to it.
 #[no_mangle]
-pub extern "C" fn waslidhaj_answer(
+pub extern "C" fn waslidhaj_answer_apart(
     state: State,
     name: &[u8],
     status: u8,

@@ -6,9 +6,10 @@ ghost use Rattle.octets.specs.Lent.{written-if, left-if, written-numbers};
 ghost use Rattle.reporting.specs.FileName.{given-id, file-name};
 use octets::WrittenNumbers;
 
-// A report's file name into the front of lent memory; the id is given where its flag is not 0.
+// A report's file name into the front of lent memory, which none of the texts overlaps (the C header's `waslidhaj_file_name` sees
+// to it); the id is given where its flag is not 0.
 #[no_mangle]
-pub extern "C" fn waslidhaj_file_name<'a>(
+pub extern "C" fn waslidhaj_file_name_apart<'a>(
     receiver: &'a [u8],
     domain: &'a [u8],
     begin: u64,

@@ -4,7 +4,7 @@ ghost use lib.ListN.{drop};
 ghost use Rattle.octets.specs.Octets.{lower};
 ghost use Rattle.octets.specs.Lent.{written, left, written-numbers};
 ghost use Rattle.alignment_stored.specs.code.Stored.{slot};
-ghost use Rattle.evaluation.specs.code.View.{marked};
+ghost use Rattle.evaluation.specs.GivenBack.{marked};
 ghost use Rattle.evaluation_numbers.specs.Numbers.{held-of, Results, Fields, Enters};
 use domain::Octet;
 use evaluation_numbers::FoundNumbers;

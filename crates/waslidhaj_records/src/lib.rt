@@ -8,9 +8,10 @@ use octets::WrittenNumbers;
 use publishing::RecordNumbers;
 use publishing::RecordRead;
 
-// A record from settings by numbers and a rua text, into the front of lent memory.
+// A record from settings by numbers and a rua text, into the front of lent memory, which the text does not overlap: the C header's
+// `waslidhaj_write_record` sees to it.
 #[no_mangle]
-pub extern "C" fn waslidhaj_write_record(
+pub extern "C" fn waslidhaj_write_record_apart(
     numbers: RecordNumbers,
     rua: &[u8],
     out: &mut [u8],

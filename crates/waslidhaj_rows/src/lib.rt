@@ -1,5 +1,6 @@
 // For programs in other languages: a day's list of rows is cleared, and verdicts are entered. The last two are thin, and each is
-// proved by a walk of its MIR by hand: the borrow checker covers none that has a `&mut [Row]`.
+// proved by a walk of its MIR by hand: the borrow checker covers none that has a `&mut [Row]`. The text and the rows lent to them
+// nowhere overlap: the C header's `waslidhaj_clear` and `waslidhaj_enter` see to it.
 ghost use mathlib.Core.Path.{_≡_};
 ghost use Rattle.rows.specs.History.{clear, enter};
 ghost use Rattle.rows_day.specs.Day.{never-cleared, Does};
@@ -22,7 +23,7 @@ pub extern "C" fn waslidhaj_new_list() -> DayList
 
 // A day's end: the list is cleared, and named for a policy domain.
 #[no_mangle]
-pub extern "C" fn waslidhaj_clear(list: DayList, domain: &[u8], rows: &mut [Row]) -> Changed
+pub extern "C" fn waslidhaj_clear_apart(list: DayList, domain: &[u8], rows: &mut [Row]) -> Changed
     ensures { λ r. ⌜ Does (clear (now (domain .entry))) list (now (rows .entry)) r (now (rows .exit)) ⌝ }
 {
     let changed = rows_check::rename(list, domain);
@@ -35,7 +36,7 @@ pub extern "C" fn waslidhaj_clear(list: DayList, domain: &[u8], rows: &mut [Row]
 
 // A verdict is entered, with the domain of its applied record.
 #[no_mangle]
-pub extern "C" fn waslidhaj_enter(
+pub extern "C" fn waslidhaj_enter_apart(
     list: DayList,
     entry: Entry,
     domain: &[u8],

@@ -50,10 +50,38 @@ impl Header {
 
     /// The functions that are declared and have no body here.
     pub fn functions(&self) -> Vec<String> {
-        let declared = self.0.split(';').filter(|part| !part.contains('{'));
-        let heads = declared.filter_map(|part| part.split_once('('));
-        let names = heads.filter_map(|(head, _)| head.split_whitespace().next_back());
+        self.heads(false)
+    }
+
+    /// The functions that have a body here.
+    pub fn defined(&self) -> Vec<String> {
+        self.heads(true)
+    }
+
+    /// The names of functions with a body, or of those without one.
+    fn heads(&self, with_body: bool) -> Vec<String> {
+        let outer = self.outer();
+        let parts = outer.split_inclusive([';', '}']);
+        let heads = parts.filter(|part| part.ends_with('}') == with_body);
+        let names = heads.filter_map(|part| part.split_once('('));
+        let names = names.filter_map(|(head, _)| head.split_whitespace().next_back());
         names.map(str::to_string).collect()
+    }
+
+    /// The header without what stands between braces and what is for the
+    /// preprocessor.
+    fn outer(&self) -> String {
+        let lines = self.0.lines().filter(|line| !line.starts_with('#'));
+        let lines = lines.filter(|line| !line.starts_with("extern \"C\""));
+        let (mut outer, mut depth) = (String::new(), 0_usize);
+        for octet in lines.flat_map(|line| line.chars().chain(['\n'])) {
+            depth -= usize::from(octet == '}' && depth > 0);
+            if depth == 0 {
+                outer.push(octet);
+            }
+            depth += usize::from(octet == '{');
+        }
+        outer
     }
 }
 
@@ -78,14 +106,17 @@ mod tests {
 
     #[test]
     fn structs_enumerators_and_functions() {
-        let text = "/* a; { */ enum { A, B = 2 /* b, */ };\nenum {\n  C\n};\n\
+        let text = "/* a; { */\nextern \"C\" {\nenum { A, B = 2 /* b, */ };\nenum {\n  C\n};\n\
+            #define OWN __attribute__((noinline))\n\
             typedef struct {\n  int a, b[2];\n  /* c; */ x_y c;\n} x_z;\n\
-            static inline int f(int a) {\n  return a;\n}\nx_z g(int a,\n  int b);\nint h(void);\n";
+            static inline int f(int a) {\n  if (a) {\n    g(1);\n  }\n  return h();\n}\n\
+            x_z g(int a,\n  int b);\nint h(void);\nstatic OWN int i(int a) { return a; }\n}\n";
         let header = Header::read(text);
         assert_eq!(header.enumerators(), ["A", "B", "C"]);
         let fields = ["a", "b", "c"].map(str::to_string).to_vec();
         let name = "x_z".to_string();
         assert_eq!(header.structs(), [Struct { name, fields }]);
         assert_eq!(header.functions(), ["g", "h"]);
+        assert_eq!(header.defined(), ["f", "i"]);
     }
 }

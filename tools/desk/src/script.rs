@@ -6,6 +6,7 @@ use std::io::Write;
 use std::path::{Path, PathBuf};
 use std::process::{Command, Output, Stdio};
 use std::sync::atomic::{AtomicUsize, Ordering};
+use std::sync::Once;
 
 /// A folder that is removed when it is dropped.
 pub struct Folder {
@@ -55,7 +56,7 @@ impl Folder {
 
     /// Runs the script here with this on standard input.
     pub fn dmarc_reading(&self, words: &[&str], input: &[u8]) -> Ended {
-        let mut command = Command::new(root().join("dmarc"));
+        let mut command = Command::new(dmarc());
         command.args(words).current_dir(&self.path);
         ended(command, input)
     }
@@ -71,6 +72,25 @@ impl Drop for Folder {
     fn drop(&mut self) {
         let _ = fs::remove_dir_all(&self.path);
     }
+}
+
+/// The script, once all that it builds is there and it has no more to say of that.
+pub fn dmarc() -> PathBuf {
+    static BUILT: Once = Once::new();
+    let script = root().join("dmarc");
+    BUILT.call_once(|| {
+        let message = root().join("examples/01.txt");
+        for words in [
+            ["--explain".as_ref(), message.as_os_str()],
+            ["--write".as_ref(), "p=none".as_ref()],
+        ] {
+            let mut command = Command::new(&script);
+            command.args(words);
+            let ended = ended(command, b"");
+            assert_eq!(ended.status, 0, "{}", ended.said);
+        }
+    });
+    script
 }
 
 /// How a program ended, and what it printed and said.

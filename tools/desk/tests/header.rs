@@ -4,7 +4,7 @@
 
 use std::fs;
 use std::mem::offset_of;
-use std::path::{Path, PathBuf};
+use std::path::Path;
 use std::process::Command;
 
 use desk::compiler::{archive, compile};
@@ -15,7 +15,8 @@ use waslidhaj::raw::{FindingNumbers, Row, Seen, Settings, State, Verdict, Writte
 use waslidhaj::raw::{ACCEPTED, ASK, REFUSED, VERDICT};
 use waslidhaj::{Alignment, AppliedPolicy, Disposition, DmarcResult};
 use waslidhaj::{Existence, Kind, Outcome};
-use waslidhaj::{DOMAIN_OCTETS, IDENTIFIERS, ROWS, SCRATCH_OCTETS};
+use waslidhaj::{DOMAIN_OCTETS, NAME_OCTETS, PRINTED_OCTETS, SCRATCH_OCTETS};
+use waslidhaj::{IDENTIFIERS, NAMES, ROWS, RUN_STACK_OCTETS, STACK_OCTETS, VERSION};
 
 /// Each compiler, and the standards that the header is compiled by.
 const COMPILERS: [(&str, &str, &[&str]); 2] = [
@@ -29,16 +30,14 @@ fn header() -> Header {
 }
 
 /// Compiles a program by each standard, runs it, and hands on what it prints.
-fn printed_by_each(title: &str, program: &str, more: &[PathBuf], check: impl Fn(&str)) {
+fn printed_by_each(title: &str, program: &str, check: impl Fn(&str)) {
     for (compiler, ending, standards) in COMPILERS {
         for standard in standards {
             let folder = Path::new(env!("CARGO_TARGET_TMPDIR"));
             let source = folder.join(format!("{title}.{ending}"));
             let built = folder.join(format!("{title}-{standard}"));
             fs::write(&source, program).expect("a file in the target folder");
-            let mut words = vec![source];
-            words.extend_from_slice(more);
-            words.extend(["-o".into(), built.clone()]);
+            let words = [source, archive(), "-o".into(), built.clone()];
             compile(compiler, standard, &words);
             let ran = Command::new(&built).output().expect("the program runs");
             assert!(ran.status.success(), "{title}, {standard}");
@@ -129,7 +128,7 @@ fn structs_lie_in_memory_as_in_rust() {
     let before: Vec<String> = structs.iter().map(after).collect();
     let statements: Vec<String> = structs.iter().flat_map(layout_statements).collect();
     let program = program(&before, &statements);
-    printed_by_each("layouts", &program, &[], |printed| {
+    printed_by_each("layouts", &program, |printed| {
         assert_eq!(printed, layouts());
     });
 }
@@ -139,10 +138,16 @@ fn structs_lie_in_memory_as_in_rust() {
 #[rustfmt::skip]
 fn numbers() -> Vec<(&'static str, usize)> {
     vec![
+        ("VERSION", VERSION),
         ("DOMAIN_OCTETS", DOMAIN_OCTETS),
+        ("NAME_OCTETS", NAME_OCTETS),
         ("SCRATCH_OCTETS", SCRATCH_OCTETS),
+        ("PRINTED_OCTETS", PRINTED_OCTETS),
         ("IDENTIFIERS", IDENTIFIERS),
+        ("NAMES", NAMES),
         ("ROWS", ROWS),
+        ("STACK_OCTETS", STACK_OCTETS),
+        ("RUN_STACK_OCTETS", RUN_STACK_OCTETS),
         ("MISSING", Existence::Missing as usize),
         ("EXISTS", Existence::Exists as usize),
         ("NOT_KNOWN", Existence::NotKnown as usize),
@@ -185,7 +190,7 @@ fn enumerators_are_the_numbers_of_rust() {
     let line = |(name, number): &(&str, usize)| format!("WASLIDHAJ_{name} {number}\n");
     let expected: String = numbers().iter().map(line).collect();
     let program = program(&[], &statements);
-    printed_by_each("numbers", &program, &[], |printed| {
+    printed_by_each("numbers", &program, |printed| {
         assert_eq!(printed, expected);
     });
 }
@@ -201,22 +206,31 @@ fn an_alignment_of_a_verdict() {
         "  printf(\"%u\", waslidhaj_alignment(verdict, index));",
     ];
     let program = program(&[], &statements.map(str::to_string));
-    printed_by_each("alignment", &program, &[], |printed| {
+    printed_by_each("alignment", &program, |printed| {
         assert_eq!(printed, "012301230123012300");
     });
 }
 
+/// A function that has memory to read and memory to write takes any: it is defined
+/// in the header over the archive's own, of memory that nowhere overlaps.
 #[test]
 fn every_function_is_in_the_archive() {
-    let functions = header().functions();
+    let (mut functions, defined) = (header().functions(), header().defined());
     assert_eq!(functions.len(), 16, "{functions:?}");
+    let apart = functions
+        .iter()
+        .filter_map(|name| name.strip_suffix("_apart"));
+    let apart: Vec<String> = apart.map(str::to_string).collect();
+    assert_eq!(apart.len(), 6, "{apart:?}");
+    assert!(apart.iter().all(|name| defined.contains(name)), "{apart:?}");
+    functions.extend(apart);
     let entry = |name: &String| format!("  (void (*)(void)){name},");
     let mut before = vec!["static void (*const functions[])(void) = {".to_string()];
     before.extend(functions.iter().map(entry));
     before.push("};".to_string());
     let print = "printf(\"%d\", functions[0] != functions[1]);".to_string();
     let program = program(&before, &[print]);
-    printed_by_each("functions", &program, &[archive()], |printed| {
+    printed_by_each("functions", &program, |printed| {
         assert_eq!(printed, "1");
     });
 }

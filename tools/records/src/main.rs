@@ -33,9 +33,10 @@ fn write(tags: &[Vec<u8>]) -> Result<(), String> {
     output(&record)
 }
 
-/// A final line end is not of the text.
+/// A final line end is not of the text. No more of it is taken than settles that it
+/// is too long.
 fn read() -> Result<(), String> {
-    let given = input(u64::MAX)?;
+    let given = input(reading::MOST_OCTETS as u64 + 2)?;
     let text = given.strip_suffix(b"\n").unwrap_or(&given);
     let mut lines = reading::lines(&Proved, text)?;
     lines.push(String::new());

@@ -2,9 +2,7 @@
 use mathlib.Core.List.{List, [], _∷_}
 use mathlib.Core.Bool.{false, _||_}
 use mathlib.Core.Option.{Option, none as nothing, some as just}
-use Prim.Native.Nat.{ℕ, zero, suc, _+_, _*_, _/_, _%_}
-use lib.Dec.{eqb}
-use Rattle.octets.specs.Octets.{if_then_else_}
+use Prim.Native.Nat.{ℕ, _+_, _*_}
 use Rattle.alignment.specs.declared.Outcome.{Outcome}
 use Rattle.alignment.specs.declared.Alignment.{Alignment}
 use Rattle.alignment_settle.specs.declared.Settled.{Settled}
@@ -19,22 +17,10 @@ alignment-code Alignment.Aligned = 1
 alignment-code Alignment.NotAligned = 2
 alignment-code Alignment.Unknown = 3
 
-unfoldable pub alignment-of : ℕ → Alignment
-alignment-of n =
-    if eqb n 0 then Alignment.NotJudged
-    else if eqb n 1 then Alignment.Aligned
-    else if eqb n 2 then Alignment.NotAligned
-    else Alignment.Unknown
-
 -- digits to base 4, the first identifier's lowest
 unfoldable pub alignment-digits : List Alignment → ℕ
 alignment-digits [] = 0
 alignment-digits (a ∷ l) = alignment-code a + 4 * alignment-digits l
-
--- so many digits, read
-unfoldable pub alignments-in : ℕ → ℕ → List Alignment
-alignments-in zero digits = []
-alignments-in (suc n) digits = alignment-of (digits % 4) ∷ alignments-in n (digits / 4)
 
 -- ------------------------------------------------------------------ a tally
 

@@ -1,18 +1,15 @@
 -- `domain_labels::find_target` meets its contract.
-use mathlib.Core.Path.{refl}
-use Prim.Native.Nat.{_-_}
 use native.Mathlib.Omega.{arith}
 use borrow.Author.Needs.{needs}
-use Rattle.domain_labels.specs.code.Places.{place-at}
-use Rattle.domain_labels.proofs.StartLaws.{finds-last, finds-whole}
+use Rattle.domain_labels.proofs.StartLaws.{by-none, by-all, by-places}
 use Rattle.domain_labels.proofs.find_target.Statement.{statement}
 use Rattle.domain_labels.proofs.find_target.Tie as tie
 
 returns : tie.Need-returns
-returns c = search needs
+returns c = by-none (c .before .args .t1 .begins) (c .before .args .n .0) (c .if1 .taken)
 
 returns-2 : tie.Need-returns-2
-returns-2 c = λ d p z h. finds-whole d (c .before .before .args .n .0) z h (c .if2 .taken)
+returns-2 c = by-all (c .before .before .args .t1 .begins) (c .before .before .args .n .0) (c .if2 .taken)
 
 sub-before : tie.Need-sub-before
 sub-before c = search needs
@@ -30,10 +27,9 @@ element-copy-out-t8 : tie.Need-element-copy-out-t8
 element-copy-out-t8 c = search needs
 
 returns-3 : tie.Need-returns-3
-unfolding place-at
-returns-3 c = λ d p z h.
+returns-3 c =
     let a = c .before .before .before .before .args in
-    finds-last d (a .n .0) z h (a .t1) p (omega arith) (a .n .0 - 1) (a .n .0) refl refl
+    by-places (a .t1 .begins) (a .n .0) (omega arith) (omega arith)
 
 pub find-target-spec : {M : Type 1} → statement M
 find-target-spec =

@@ -1,25 +1,23 @@
 -- What an evaluation keeps, read from its fields, and what each call promises by it. Every evaluation is read, those too that no call can make.
 use mathlib.Core.Path.{_≡_}
-use mathlib.Core.List.{[]}
+use mathlib.Core.List.{List, []}
 use mathlib.Core.Bool.{Bool, true, false}
 use mathlib.Core.Option.{Option, none as nothing, some as just}
 use Prim.Native.Nat.{ℕ, _*_}
 use lib.Dec.{leb}
-use lib.ListN.{drop, replicate}
+use lib.ListN.{getD, replicate}
 use Rattle.octets.specs.Octets.{if_then_else_}
 use Rattle.octets.specs.Refusing.{OrRefused, ok, not-ok}
 use Rattle.lookup.specs.Lookup.{Name, Answers}
-use Rattle.domain.specs.declared.Octet.{Octet}
-use Rattle.domain.specs.Domain.{asked-name}
 use Rattle.txt.specs.declared.Reply.{Reply}
 use Rattle.walk_known.specs.code.Kept.{kept-answers}
-use Rattle.alignment_stored.specs.code.Stored.{slot}
 use Rattle.verdict.specs.declared.Existence.{Existence}
 use Rattle.verdict.specs.Message.{Message}
 use Rattle.verdict.specs.Verdict.{Verdict}
-use Rattle.verdict_judgement.specs.code.Judging.{stored-message, verdict-in, Fixed}
+use Rattle.verdict_judgement.specs.code.Judging.{Fixed}
+use Rattle.verdict_judgement.specs.Reading.{verdict-in}
 use Rattle.verdict_cursor.specs.declared.PlaceKind.{PlaceKind}
-use Rattle.verdict_cursor.specs.code.Cursor.{Cursor, stands, needed}
+use Rattle.verdict_cursor.specs.code.Cursor.{Cursor, stands, needed, numbers-of}
 use Rattle.verdict_cursor.specs.code.Standing.{cursor-in}
 use Rattle.verdict_cursor.specs.code.Positions.{place-in}
 use Rattle.evaluation.specs.declared.Evaluation.{Evaluation}
@@ -30,12 +28,10 @@ use Rattle.evaluation.specs.declared.Acceptance.{Acceptance}
 use Rattle.evaluation.specs.declared.Changed.{Changed}
 use Rattle.asking.specs.Asking.{Back, ask-name, verdict, accepted, wrote, refused, Given, given}
 use Rattle.book.specs.Book.{Call, add, next, answer, result, field}
+use Rattle.evaluation.specs.GivenBack.{message-now, step-back, resulting-back}
 use Rattle.evaluation.specs.code.Machine.{Keeps, keeps-nothing, keeps-opened, judged, machine-call}
 
 -- ------------------------------------------------------------------ what an evaluation keeps
-
-unfoldable pub message-now : Evaluation → Message
-message-now e = stored-message (e .domains) (e .numbers) (e .terms)
 
 unfoldable pub replies-now : Evaluation → Answers Reply
 replies-now e = kept-answers (e .domains) (e .count) (e .kept)
@@ -59,9 +55,14 @@ view-by e true true = handed-view e
 unfoldable pub view : Evaluation → Keeps
 view e = view-by e (e .started) (e .handed)
 
--- the name that a walk and a place mark: the target that begins at that place of the walk's domain
-unfoldable pub marked : Evaluation → (walk : ℕ) → (place : Octet) → Name
-marked e walk place = asked-name (drop (place .0) (slot (e .domains) (e .numbers) walk))
+-- the numbers of what is kept of the walks: none before the first step
+unfoldable pub numbers-kept : Option Cursor → List ℕ
+numbers-kept nothing = []
+numbers-kept (just c) = numbers-of c
+
+-- an evaluation that stores these numbers, and no others
+unfoldable pub Numbered : Evaluation → Type 0
+Numbered e = (walk : ℕ) → getD (e .stored) walk 0 ≡ getD (numbers-kept (view e .at)) walk 0
 
 -- where a walk's domain begins among the stored ones
 unfoldable pub begin-of-slot : (walk : ℕ) → ℕ
@@ -112,21 +113,10 @@ pub record Does (before : Evaluation) (c : Call) (after : Evaluation) (g : Given
   pub stands : changing (g .back) ≡ false → after ≡ before
   -- but for an adding the stored domains stay, so a walk and a place go on to mark the same name
   pub same-domains : is-adding c ≡ false → (after .domains ≡ before .domains) × (after .numbers ≡ before .numbers)
+  -- where the numbers stored were those of what is kept, they are
+  pub numbers : Numbered before → Numbered after
 
 -- ------------------------------------------------------------------ the code's answers, read
-
-unfoldable pub step-back : Evaluation → Step → Back Verdict
-step-back e (Step.Ask walk place) = ask-name (marked e walk place)
-step-back e (Step.Verdict v) = verdict (verdict-in (message-now e) (v .judgement)) (v .count)
-step-back e (Step.Refused f) = refused f
-
-unfoldable pub resulting-back : Evaluation → Resulting → Back Verdict
-resulting-back e (Resulting.Verdict v) = verdict (verdict-in (message-now e) (v .judgement)) (v .count)
-resulting-back e (Resulting.Refused f) = refused f
-
-unfoldable pub acceptance-back : Acceptance → Back Verdict
-acceptance-back Acceptance.Accepted = accepted
-acceptance-back (Acceptance.Refused f) = refused f
 
 -- the message and its verdict, or a refusal
 unfoldable pub resulting-in : Evaluation → Resulting → OrRefused (Message × Verdict)
@@ -156,9 +146,9 @@ pub record DoesResult (before : Evaluation) (r : Resulting) : Type 0 where
 
 -- ------------------------------------------------------------------ opening
 
--- the promise of an opening: accepted, the evaluation keeps the message and nothing more; "refused, the evaluation stands as it did"
+-- the promise of an opening: accepted, the evaluation keeps the message and nothing more, and nothing is stored; "refused, the evaluation stands as it did"
 unfoldable pub Changes : Evaluation → OrRefused Keeps → Changed → Type 0
-Changes e (ok k) r = (r .acceptance ≡ Acceptance.Accepted) × (view (r .evaluation) ≡ k)
+Changes e (ok k) r = (r .acceptance ≡ Acceptance.Accepted) × (view (r .evaluation) ≡ k) × Numbered (r .evaluation)
 Changes e (not-ok f) r = r ≡ record { evaluation = e; acceptance = Acceptance.Refused f }
 
 unfoldable pub opened-view : OrRefused Message → OrRefused Keeps

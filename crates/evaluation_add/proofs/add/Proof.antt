@@ -2,7 +2,7 @@
 use borrow.Author.Needs.{needs}
 use mathlib.Core.Path.{refl}
 use borrow.Author.Tests.{not-true, not-false}
-use Rattle.evaluation.specs.code.View.{message-now}
+use Rattle.evaluation.specs.GivenBack.{message-now}
 use Rattle.evaluation_open.specs.code.Opening.{Holds}
 use Rattle.evaluation_add.proofs.AddLaws.{add-not-opened, add-too-late, add-in-time}
 use Rattle.evaluation_add.proofs.add.Statement.{statement}

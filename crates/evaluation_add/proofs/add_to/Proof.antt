@@ -68,7 +68,7 @@ store-requires c κs =
     (omega (arith, d .before .before .before .if3 .left, d .before .before .before .before .before .before .smaller .ensures), domain-short _ (sym (d .is-domain .ensures) ∙ not-false _ (c .if6 .left)))
 
 returns-6 : tie.Need-returns-6
-returns-6 c m h = let d = c .before .before in let taken = d .before in let b = taken .before .before in let s = b .before .before .before in adding-ok h (s .smaller .result) (s .smaller .ensures) _ (good-identifier _ _ _ (b .before .before .if1 .left) (b .before .if2 .left) (b .if3 .left) (first (taken .before) m h) (taken .without-dot .ensures) (sym (d .is-domain .ensures) ∙ not-false _ (c .before .if6 .left))) (c .store .ensures m h)
+returns-6 c m h = let d = c .before .before in let taken = d .before in let b = taken .before .before in let s = b .before .before .before in adding-ok h (s .smaller .result) (s .smaller .ensures) _ (good-identifier _ _ _ (b .before .before .if1 .left) (b .before .if2 .left) (b .if3 .left) (first (taken .before) m h) (taken .without-dot .ensures) (sym (d .is-domain .ensures) ∙ not-false _ (c .before .if6 .left))) (c .store .ensures .0 m h) (c .store .ensures .1)
 
 pub add-to-spec : {M : Type 1} → statement M
 add-to-spec =

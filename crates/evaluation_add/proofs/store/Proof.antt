@@ -4,7 +4,7 @@ use mathlib.Core.Path.{refl}
 use Prim.Native.Nat.{_+_}
 use native.Mathlib.Omega.{arith}
 use lib.ListN.{length-map}
-use Rattle.evaluation.specs.code.View.{message-now}
+use Rattle.evaluation.specs.GivenBack.{message-now}
 use Rattle.evaluation_add.proofs.MoreLaws.{message-with}
 use Rattle.evaluation_add.proofs.store.Statement.{statement}
 use Rattle.evaluation_add.proofs.store.Tie as tie
@@ -50,12 +50,12 @@ array-write-numbers-3 c = search needs
 
 returns : tie.Need-returns
 unfolding message-now
-returns c m h =
+returns c =
     let b = c .before .before in
     let k = b .before .before .before .before .before .before in
     let a = k .args in
     let message = message-with (a .e .numbers) (a .d .now) (a .e .terms .identifiers + 1) (a .kind) (a .outcome) (omega (arith, k .pre .0)) (omega (arith, simp length-map at (k .good .0 .1 .1 .1 .1 .1 .1 .0 .1 .0 .1))) (omega (arith, simp length-map at (k .good .0 .1 .1 .1 .1 .1 .0 .1 .0 .1))) (k .pre .1) (b .append-lower .ensures) (a .e .terms) refl in
-    record { started = h .started; not-handed = h .not-handed; message = rw (← (h .message)) message }
+    (λ m h. record { started = h .started; not-handed = h .not-handed; message = rw (← (h .message)) message }, refl)
 
 pub store-spec : {M : Type 1} → statement M
 store-spec =

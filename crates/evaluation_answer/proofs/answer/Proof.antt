@@ -6,7 +6,8 @@ use mathlib.Core.Option.{some as just}
 use lib.ListN.{length, length-map}
 use Rattle.verdict_cursor.specs.code.Cursor.{stands, needed}
 use Rattle.verdict_ahead.specs.code.Waits.{waiting-name}
-use Rattle.evaluation.specs.code.View.{message-now, cursor-now, marked}
+use Rattle.evaluation.specs.code.View.{cursor-now}
+use Rattle.evaluation.specs.GivenBack.{message-now, marked}
 use Rattle.evaluation_keep.specs.code.Asking.{answered}
 use Rattle.evaluation_keep.proofs.AnswerLaws.{answered-in, accepted-few, answer-not-now, answer-refused, answer-accepted}
 use Rattle.evaluation_answer.proofs.answer.Statement.{statement}
@@ -92,7 +93,7 @@ returns-3 c =
     let w = t .before .before .before in
     let k = w .before .before .before .before .before .before .before .before .before .before .before .before .before .before in
     let a = k .args in
-    answer-accepted (a .t1) (kept-full k) (a .name .now) (a .status) (a .bytes .now) (a .scratch .now) (w .walk .given .0 .0) (w .walk .given .0 .1 .0) (now-asked w) _ (r .given .0 .0) (c .accept .result) (c .accept .ensures (accepted-few (a .t1) (a .name .now) (now-asked w))) (rw (r .given .1) at (t .take-answer .ensures))
+    answer-accepted (a .t1) (kept-full k) (a .name .now) (a .status) (a .bytes .now) (a .scratch .now) (w .walk .given .0 .0) (w .walk .given .0 .1 .0) (now-asked w) _ (r .given .0 .0) (c .accept .result) (c .accept .ensures .accepts (accepted-few (a .t1) (a .name .now) (now-asked w))) (rw (r .given .1) at (t .take-answer .ensures))
 
 pub answer-spec : {M : Type 1} → statement M
 answer-spec =

@@ -1,6 +1,6 @@
 -- `evaluation_field::field` meets its contract.
 use borrow.Author.Needs.{needs}
-use Rattle.evaluation.specs.code.View.{message-now}
+use Rattle.evaluation.specs.GivenBack.{message-now}
 use Rattle.evaluation_field.proofs.FieldLaws.{field-refused, field-verdict}
 use Rattle.evaluation_field.proofs.field.Statement.{statement}
 use Rattle.evaluation_field.proofs.field.Tie as tie

@@ -23,7 +23,11 @@ put-length : (l : List ℕ) (at x y z : ℕ) → length (set (set (set l at x) (
 put-length l at x y z = rw (length-set (set (set l at x) (at + 1) y) (at + 2) z, length-set (set l at x) (at + 1) y, length-set l at x)
 
 returns : tie.Need-returns
-returns c h = absurd (omega (arith, c .if1 .taken))
+returns c = record {
+  replies = λ h. absurd (omega (arith, c .if1 .taken));
+  size = λ h. absurd (omega (arith, c .if1 .taken));
+  no-room = λ h. refl;
+}
 
 slot-requires : tie.Need-slot-requires
 slot-requires c κs = search needs
@@ -59,7 +63,7 @@ put-requires : tie.Need-put-requires
 put-requires c κs = search needs
 
 returns-2 : tie.Need-returns-2
-returns-2 c h =
+returns-2 c =
     let code = c .before .before .encode in
     let from = c .before .before .before .smaller in
     let begin = c .before .before .before .before .slot-begin in
@@ -67,12 +71,15 @@ returns-2 c h =
     let a = s .before .before .before .before .args in
     let size = length (s .slot .result .now) in
     let full : length (a .kept .now) ≡ 408 = omega (arith, c .before .put-arg .given .0 .1) in
-    let written = set (set (set (a .kept .now) (3 * a .count) (begin .result + from .result)) (3 * a .count + 1) (begin .result + size)) (3 * a .count + 2) (code .result) in (
-      ap (λ l. kept-answers (a .domains .now) (a .count + 1) l) {y = written} (c .put .ensures)
+    let written = set (set (set (a .kept .now) (3 * a .count) (begin .result + from .result)) (3 * a .count + 1) (begin .result + size)) (3 * a .count + 2) (code .result) in
+    record {
+      replies = λ h.
+          ap (λ l. kept-answers (a .domains .now) (a .count + 1) l) {y = written} (c .put .ensures)
           ∙ kept-more (a .domains .now) (a .count) (3 * a .count) (a .kept .now) (begin .result + from .result) (begin .result + size) (code .result) refl (omega arith)
-          ∙ rw (mark-stored (a .domains .now) (a .numbers .now) (a .walk) (a .place .0) (begin .result) size (from .result) (begin .ensures) (ap length (s .slot .ensures)) (from .ensures), code .ensures, reply-back (a .r)),
-      ap length {y = written} (c .put .ensures) ∙ put-length (a .kept .now) (3 * a .count) (begin .result + from .result) (begin .result + size) (code .result) ∙ full,
-    )
+          ∙ rw (mark-stored (a .domains .now) (a .numbers .now) (a .walk) (a .place .0) (begin .result) size (from .result) (begin .ensures) (ap length (s .slot .ensures)) (from .ensures), code .ensures, reply-back (a .r));
+      size = λ h. ap length {y = written} (c .put .ensures) ∙ put-length (a .kept .now) (3 * a .count) (begin .result + from .result) (begin .result + size) (code .result) ∙ full;
+      no-room = λ h. absurd (omega (arith, s .before .if1 .left));
+    }
 
 pub keep-reply-spec : {M : Type 1} → statement M
 keep-reply-spec =

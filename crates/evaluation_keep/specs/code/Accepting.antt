@@ -1,13 +1,31 @@
 -- What an accepted answer makes of an evaluation.
 use mathlib.Core.Path.{_≡_}
-use mathlib.Core.List.{[], _∷_, _++_}
+use mathlib.Core.List.{List, [], _∷_, _++_}
 use mathlib.Core.Bool.{false}
-use Prim.Native.Nat.{ℕ}
+use Prim.Native.Nat.{ℕ, _+_, _≤_, _<_}
+use lib.ListN.{length, drop}
+use Rattle.octets.specs.Octets.{Octets}
 use Rattle.domain.specs.declared.Octet.{Octet}
+use Rattle.domain.specs.Domain.{asked-name}
 use Rattle.txt.specs.declared.Reply.{Reply}
+use Rattle.walk_known.specs.code.Kept.{kept-answers}
+use Rattle.alignment_stored.specs.code.Stored.{slot}
 use Rattle.verdict_cursor.specs.code.Cursor.{answered-on}
+use Rattle.verdict_cursor.specs.code.Standing.{OnlyThese}
+use Rattle.verdict_cursor.specs.code.Positions.{place-in}
 use Rattle.evaluation.specs.declared.Evaluation.{Evaluation}
-use Rattle.evaluation.specs.code.View.{message-now, replies-now, cursor-now, marked}
+use Rattle.evaluation.specs.code.View.{replies-now, cursor-now}
+use Rattle.evaluation.specs.GivenBack.{message-now, marked}
+
+-- with room for it, one reply more is kept, to the name that a walk and a place mark; else nothing is changed
+pub record KeepsReply (domains : Octets) (numbers : List ℕ) (walk : ℕ) (place : Octet) (r : Reply) (count : ℕ) (before after : List ℕ) : Type 0 where
+  pub replies : count < 136 → kept-answers domains (count + 1) after ≡ kept-answers domains count before ++ ((asked-name (drop (place .0) (slot domains numbers walk)), r) ∷ [])
+  pub size : count < 136 → length after ≡ 408
+  pub no-room : 136 ≤ count → after ≡ before
+
+-- the numbers stored are those of where it stands, and no others
+unfoldable pub NumberedNow : Evaluation → Type 0
+NumberedNow e = OnlyThese (e .domains) (e .numbers) (e .terms) (e .stored) (place-in (e .position))
 
 -- the reply to the name that a walk and a place mark is kept, and where the evaluation stands moves on
 pub record Accepts (before : Evaluation) (walk : ℕ) (place : Octet) (r : Reply) (after : Evaluation) : Type 0 where
@@ -19,3 +37,9 @@ pub record Accepts (before : Evaluation) (walk : ℕ) (place : Octet) (r : Reply
   pub terms : after .terms ≡ before .terms
   pub replies : replies-now after ≡ replies-now before ++ ((marked before walk place, r) ∷ [])
   pub cursor : cursor-now after ≡ answered-on (replies-now after) (message-now before) (cursor-now before) r
+  pub numbered : NumberedNow before → NumberedNow after
+
+-- with room for the reply it is accepted; else nothing is changed
+pub record AcceptsInRoom (before : Evaluation) (walk : ℕ) (place : Octet) (r : Reply) (after : Evaluation) : Type 0 where
+  pub accepts : before .count < 136 → Accepts before walk place r after
+  pub no-room : 136 ≤ before .count → after ≡ before

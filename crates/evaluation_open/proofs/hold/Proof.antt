@@ -3,7 +3,7 @@ use borrow.Author.Needs.{needs}
 use mathlib.Core.Path.{refl}
 use native.Mathlib.Omega.{arith}
 use lib.ListN.{length-map}
-use Rattle.evaluation.specs.code.View.{message-now}
+use Rattle.evaluation.specs.GivenBack.{message-now}
 use Rattle.evaluation_open.proofs.SlotLaws.{held-message}
 use Rattle.evaluation_open.proofs.hold.Statement.{statement}
 use Rattle.evaluation_open.proofs.hold.Tie as tie
@@ -26,12 +26,12 @@ array-write-numbers c = search needs
 returns : tie.Need-returns
 unfolding message-now
 returns c =
-    let b = c .before .before in
+    let b = c .before .before .before in
     let known = b .before .before .before in
     let k = known .before .before in
     let a = k .args in
     let message = held-message (a .e .numbers) (a .author .now) _ (a .support) (omega (arith, simp length-map at (k .good .0 .1 .1 .1 .1 .1 .1 .0 .1 .0 .1))) (omega (arith, simp length-map at (k .good .0 .1 .1 .1 .1 .1 .0 .1 .0 .1))) (k .pre) (b .append-lower .ensures) in
-    record { started = refl; not-handed = refl; message = rw (← (known .read-existence .ensures)) message }
+    (record { started = refl; not-handed = refl; message = rw (← (known .read-existence .ensures)) message }, refl)
 
 pub hold-spec : {M : Type 1} → statement M
 hold-spec =

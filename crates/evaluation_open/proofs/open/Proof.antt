@@ -27,7 +27,7 @@ returns c =
     let b = c .before .before in
     let taken = b .before .before .before in
     let a = taken .before .before .args in
-    opens-changes _ _ _ (opens-refused (a .e) (bad-existence (a .author .now) (a .existence) (a .support) (taken .without-dot .ensures) (b .before .before .check .ensures) (b .enum-told .given .0 .0) (b .enum-told .given .1) (c .before .if1 .taken)) (c .refused2 .ensures))
+    opens-changes _ _ _ (opens-refused (a .e) _ (bad-existence (a .author .now) (a .existence) (a .support) (taken .without-dot .ensures) (b .before .before .check .ensures) (b .enum-told .given .0 .0) (b .enum-told .given .1) (c .before .if1 .taken)) (c .refused2 .ensures))
 
 refused-requires-3 : tie.Need-refused-requires-3
 refused-requires-3 c κs = search needs
@@ -37,7 +37,7 @@ returns-2 c =
     let b = c .before .before .before in
     let taken = b .before .before .before in
     let a = taken .before .before .args in
-    opens-changes _ _ _ (opens-refused (a .e) (bad-support (a .author .now) (a .existence) (a .support) (taken .without-dot .ensures) (b .before .before .check .ensures) (b .enum-told .given .0 .0) (b .enum-told .given .1) (c .before .before .if1 .left) (c .before .if2 .taken)) (c .refused3 .ensures))
+    opens-changes _ _ _ (opens-refused (a .e) _ (bad-support (a .author .now) (a .existence) (a .support) (taken .without-dot .ensures) (b .before .before .check .ensures) (b .enum-told .given .0 .0) (b .enum-told .given .1) (c .before .before .if1 .left) (c .before .if2 .taken)) (c .refused3 .ensures))
 
 hold-requires : tie.Need-hold-requires
 hold-requires c κs =
@@ -51,14 +51,14 @@ returns-3 c =
     let b = c .before .before in
     let taken = b .before .before .before in
     let a = taken .before .before .args in
-    opens-changes _ _ _ (opens-refused (a .e) (bad-author (a .author .now) (a .existence) (a .support) (taken .without-dot .ensures) (b .before .before .check .ensures) (b .at .given .0 .0) (b .at .given .1)) (c .refused .ensures))
+    opens-changes _ _ _ (opens-refused (a .e) _ (bad-author (a .author .now) (a .existence) (a .support) (taken .without-dot .ensures) (b .before .before .check .ensures) (b .at .given .0 .0) (b .at .given .1)) (c .refused .ensures))
 
 returns-4 : tie.Need-returns-4
 returns-4 c =
     let b = c .before .before .before in
     let taken = b .before .before .before in
     let a = taken .before .before .args in
-    opens-changes _ _ _ (opens-ok (a .e) (good-opening (a .author .now) (a .existence) (a .support) (taken .without-dot .ensures) (b .before .before .check .ensures) (b .enum-told .given .0 .0) (b .enum-told .given .1) (c .before .before .if1 .left) (c .before .if2 .left)) (c .hold .ensures))
+    opens-changes _ _ _ (opens-ok (a .e) _ (good-opening (a .author .now) (a .existence) (a .support) (taken .without-dot .ensures) (b .before .before .check .ensures) (b .enum-told .given .0 .0) (b .enum-told .given .1) (c .before .before .if1 .left) (c .before .if2 .left)) (c .hold .ensures .0) (c .hold .ensures .1))
 
 pub open-spec : {M : Type 1} → statement M
 open-spec =

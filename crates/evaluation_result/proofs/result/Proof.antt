@@ -6,7 +6,8 @@ use lib.ListN.{length, length-map}
 use borrow.Author.Tests.{not-true, not-false}
 use Rattle.verdict_judgement.specs.code.Judging.{judged-standing, JudgedFixed}
 use Rattle.verdict_cursor.specs.code.Cursor.{stands}
-use Rattle.evaluation.specs.code.View.{message-now, cursor-now}
+use Rattle.evaluation.specs.code.View.{cursor-now}
+use Rattle.evaluation.specs.GivenBack.{message-now}
 use Rattle.evaluation.proofs.CallLaws.{result-not-started, result-not-handed, result-missing, result-verdict}
 use Rattle.evaluation_result.proofs.result.Statement.{statement}
 use Rattle.evaluation_result.proofs.result.Tie as tie

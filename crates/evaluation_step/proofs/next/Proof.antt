@@ -6,7 +6,8 @@ use lib.ListN.{length, length-map}
 use borrow.Author.Tests.{not-true, not-false}
 use Rattle.verdict_judgement.specs.code.Judging.{judged-standing, JudgedFixed}
 use Rattle.verdict_cursor.specs.code.Cursor.{stands}
-use Rattle.evaluation.specs.code.View.{message-now, cursor-now, StepFixed}
+use Rattle.evaluation.specs.code.View.{cursor-now, StepFixed}
+use Rattle.evaluation.specs.GivenBack.{message-now}
 use Rattle.evaluation.proofs.CallLaws.{next-not-started}
 use Rattle.evaluation_first.specs.code.Pointing.{Points}
 use Rattle.evaluation_first.proofs.PointLaws.{same-message, next-missing, next-verdict}
@@ -15,7 +16,7 @@ use Rattle.evaluation_step.proofs.next.Tie as tie
 
 -- where the next step is
 pointed : (p : tie.After-point) → Points (p .before .before .before .args .e) (p .point .result)
-pointed p = p .point .ensures (not-false _ (p .before .if1 .left))
+pointed p = p .point .ensures
 
 -- and where the evaluation stands there
 stood : (v : tie.After-judge) →

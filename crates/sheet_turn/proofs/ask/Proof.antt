@@ -3,7 +3,7 @@ use Prim.Native.Nat.{ℕ}
 use lib.ListN.{length-replicate}
 use borrow.Author.Needs.{needs}
 use Rattle.sheet_turn.proofs.ConversingLaws.{goes-on, stops, going, ending}
-use Rattle.evaluation.specs.code.View.{acceptance-back}
+use Rattle.evaluation.specs.GivenBack.{acceptance-back}
 use Rattle.sheet_turn.specs.code.Conversing.{answers-on}
 use Rattle.records_find.proofs.SheetLaws.{answer-law}
 use Rattle.txt.specs.Answers.{answer-of}

@@ -1,7 +1,7 @@
 -- `sheet_turn::name_at` meets its contract.
 use borrow.Author.Needs.{needs}
 use Rattle.sheet_turn.proofs.NameLaws.{marked-short, wrote, never-short}
-use Rattle.evaluation.specs.code.View.{marked}
+use Rattle.evaluation.specs.GivenBack.{marked}
 use native.Mathlib.Omega.{arith}
 use Rattle.sheet_turn.proofs.name_at.Statement.{statement}
 use Rattle.sheet_turn.proofs.name_at.Tie as tie

@@ -52,7 +52,7 @@ returns-3 c =
     let there : a .walk ≤ given-count (a .domains .now) (a .numbers .now) (a .t) = omega (arith, late .before .smaller .ensures, late .if2 .left) in
     moves-identifier (a .domains .now) (a .numbers .now) (a .t) (kept-answers (a .domains .now) (a .count) (a .kept .now)) (a .stored .now) (a .r) _ _ (a .stop) (w .reach-after .result) (a .ruling) (a .walk) (omega (arith, begun)) there
     (rw (w .before .slot .ensures) at (w .reach-after .ensures))
-    (c .compare-after .ensures (omega (arith, begun)) there)
+    (c .compare-after .ensures .given (omega (arith, begun)) there)
 
 pub advance-identifier-spec : {M : Type 1} → statement M
 advance-identifier-spec =

@@ -39,7 +39,7 @@ returns-2 c =
     let l = told .before .before in
     let n = l .before in
     let a = n .before .before .before .before .args in
-    begins-known (a .domains .now) (a .numbers .now) (a .t) (kept-answers (a .domains .now) (a .count) (a .kept .now)) _ _ _ (sym (told .r .given .1) ∙ (rw (n .slot .ensures) at (l .look-at .ensures))) (c .own .ensures)
+    begins-known (a .domains .now) (a .numbers .now) (a .t) (kept-answers (a .domains .now) (a .count) (a .kept .now)) _ _ _ _ (sym (told .r .given .1) ∙ (rw (n .slot .ensures) at (l .look-at .ensures))) (c .own .ensures)
 
 pub begin-spec : {M : Type 1} → statement M
 begin-spec =

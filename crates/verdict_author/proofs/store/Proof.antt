@@ -17,7 +17,7 @@ returns : tie.Need-returns
 returns c =
     let n = c .before .before in
     let a = n .before .before .before .before .args in
-    stores-author (a .domains .now) (a .numbers .now) _ (a .w) (n .stored-number .result) (c .put-number .ensures) (rw (n .before .slot .ensures) at (n .stored-number .ensures))
+    stores-author (a .domains .now) (a .numbers .now) _ _ (a .w) (n .stored-number .result) (c .put-number .ensures) (rw (n .before .slot .ensures) at (n .stored-number .ensures))
 
 pub store-spec : {M : Type 1} → statement M
 store-spec = tie.close (tie.spec slot-requires stored-number-requires put-number-requires returns)

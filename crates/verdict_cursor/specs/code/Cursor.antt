@@ -3,6 +3,7 @@
 use mathlib.Core.List.{List, [], _∷_, _++_, map}
 use mathlib.Core.Bool.{Bool, true, false}
 use mathlib.Core.Option.{Option, none as nothing, some as just}
+use Prim.Native.Nat.{ℕ}
 use Rattle.octets.specs.Octets.{any, if_then_else_}
 use Rattle.lookup.specs.Lookup.{Name, Answers, find, Standing, needs, has}
 use Rattle.domain.specs.Domain.{Domain, targets, can-ask, asked-name}
@@ -14,14 +15,13 @@ use Rattle.txt.specs.declared.Reply.{Reply}
 use Rattle.alignment.specs.declared.Alignment.{Alignment}
 use Rattle.alignment.specs.Alignments.{Identifier, settled-alignment, must-walk, compared}
 use Rattle.walk.specs.Walk.{found}
-use Rattle.walk.specs.Stored.{Stored, still-open, failed, stored-domain}
+use Rattle.walk_progress.specs.code.Stored.{Stored, still-open, failed, stored-domain, number-in}
 use Rattle.walk_progress.specs.code.Turns.{one-more}
 use Rattle.walk_progress.specs.code.Progress.{ended, stored-in}
-use Rattle.walk_progress.specs.code.Reaching.{Pause, Reached, pauses, over, reach-by, reach, reach-after, halts, later-targets, progress-of}
+use Rattle.walk_progress.specs.code.Reaching.{Pause, Reached, pauses, over, reach-by, reach, reach-after, later-targets, progress-of}
 use Rattle.verdict.specs.declared.Result.{Result}
 use Rattle.verdict.specs.declared.AppliedPolicy.{AppliedPolicy}
 use Rattle.verdict.specs.Message.{Message}
-use Rattle.verdict.specs.Stored.{Stores}
 use Rattle.verdict.specs.Verdict.{Applied, own, other, not-known, no-record, policy-of, Verdict, unjudged}
 use Rattle.verdict_cursor.specs.code.Stage.{concluded, applied-in}
 
@@ -103,14 +103,16 @@ module _ (β : Answers Reply) (m : Message) where
   apply-reached (pauses q) = cursor still-open [] (on-author q)
   apply-reached (over w) = apply (stored-in (m .author) (ended w)) (over w) (applied-in w)
 
-  -- with the reply at the author's own name: "pausing if its own name has a record", and stored if the walk ends with it
+  -- with an own record: the author's walk so far, stored if it has ended
+  abbrev pub own-reached : Applied → Reached → Cursor
+  own-reached a w = apply (stored-in (m .author) (progress-of w)) w a
+
+  -- with the reply at the author's own name: "pausing if its own name has a record"
   unfoldable pub own-on : Reply → Cursor
   own-on Reply.Error = apply failed (over nothing) not-known
   own-on Reply.NoRecord = apply-reached (reach β (m .author) nothing (later-targets (m .author)))
   own-on (Reply.Record s) =
-      apply (stored-in (m .author) (progress-of (reach-by (m .author) nothing (m .author) (one-more (m .author) (m .author)) (halts (m .author) (later-targets (m .author))) (Reply.Record s))))
-      (reach-by (m .author) nothing (m .author) (one-more (m .author) (m .author)) (λ l. reach β (m .author) l (later-targets (m .author))) (Reply.Record s))
-      (own (found (m .author) s))
+      own-reached (own (found (m .author) s)) (reach-by (m .author) nothing (m .author) (one-more (m .author) (m .author)) (λ l. reach β (m .author) l (later-targets (m .author))) (Reply.Record s))
 
   -- from the beginning
   unfoldable pub begin-on : Cursor
@@ -147,14 +149,8 @@ unfoldable pub needed : Standing Verdict → Option Name
 needed (needs n) = just n
 needed (has v) = nothing
 
--- the domain of the walk that is open
-unfoldable pub walking-at : Message → Point → Option Domain
-walking-at m on-own-name = nothing
-walking-at m (on-author q) = just (m .author)
-walking-at m (on-completing d s p q) = just (m .author)
-walking-at m (on-identifier d s p i q is) = just (i .domain)
-walking-at m (at-verdict v) = nothing
+-- ------------------------------------------------------------------ the numbers stored
 
--- what is stored
-unfoldable pub stores : Message → Cursor → Stores
-stores m c = record { author = c .author; passed = c .passed; walking = walking-at m (c .point) }
+-- of the author's walk, and of each identifier that was passed
+unfoldable pub numbers-of : Cursor → List ℕ
+numbers-of c = number-in (c .author) ∷ map (λ w. number-in (w .1)) (c .passed)

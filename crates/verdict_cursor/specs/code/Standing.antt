@@ -3,7 +3,7 @@
 use mathlib.Core.Path.{_≡_}
 use mathlib.Core.List.{List, [], _∷_}
 use mathlib.Core.Bool.{_&&_}
-use Prim.Native.Nat.{ℕ, zero, suc, _+_, _-_, min}
+use Prim.Native.Nat.{ℕ, zero, suc, _+_, _-_, _≤_, min}
 use lib.Dec.{leb}
 use lib.ListN.{drop, getD}
 use Rattle.octets.specs.Octets.{Octets, if_then_else_}
@@ -12,7 +12,7 @@ use Rattle.policy.specs.declared.Policy.{Policy}
 use Rattle.txt.specs.declared.Reply.{Reply}
 use Rattle.alignment.specs.Alignments.{Identifier}
 use Rattle.alignment_stored.specs.code.Stored.{slot, identifier-at, stored-identifiers}
-use Rattle.walk.specs.Stored.{Stored, still-open}
+use Rattle.walk_progress.specs.code.Stored.{Stored, still-open}
 use Rattle.walk_progress.specs.code.Stops.{pause-in, stored-of}
 use Rattle.verdict.specs.declared.Result.{Result}
 use Rattle.verdict.specs.declared.AppliedPolicy.{AppliedPolicy}
@@ -23,11 +23,20 @@ use Rattle.verdict.specs.Message.{Message}
 use Rattle.verdict.specs.Verdict.{Verdict, unjudged}
 use Rattle.verdict_cursor.specs.code.Stage.{concluded}
 use Rattle.verdict_judgement.specs.code.Judging.{stored-message}
-use Rattle.verdict_cursor.specs.code.Cursor.{Cursor, cursor, on-own-name, on-author, on-completing, on-identifier, at-verdict, alignments-read, compare-on, begin-on, answered-on}
+use Rattle.verdict_cursor.specs.code.Cursor.{Cursor, cursor, on-own-name, on-author, on-completing, on-identifier, at-verdict, alignments-read, compare-on, begin-on, answered-on, numbers-of}
 
 -- what is stored of a walk
 unfoldable pub stored-at : List ℕ → (walk : ℕ) → Stored
 stored-at stored walk = stored-of (getD stored walk 0)
+
+-- nothing is stored of a walk or of those after it
+unfoldable pub NoneFrom : (walk : ℕ) → (stored : List ℕ) → Type 0
+NoneFrom walk stored = (k : ℕ) → walk ≤ k → getD stored k 0 ≡ 0
+
+-- the author's number is written, and no other
+pub record WritesAuthor (before after : List ℕ) (st : Stored) : Type 0 where
+  pub number : stored-at after 0 ≡ st
+  pub others : (k : ℕ) → getD after (suc k) 0 ≡ getD before (suc k) 0
 
 module _ (domains : Octets) (numbers : List ℕ) where
   -- so many identifiers from a walk's on, with what is stored of each
@@ -71,15 +80,24 @@ module _ (domains : Octets) (numbers : List ℕ) where
 
     -- ---------------------------------------------------------------- promises: what is stored on the way in and on the way out
 
+    -- the numbers stored are those of where it stands, and no others
+    unfoldable pub OnlyThese : (stored : List ℕ) → Place → Type 0
+    OnlyThese stored p = (walk : ℕ) → getD stored walk 0 ≡ getD (numbers-of (cursor-in stored p)) walk 0
+
+    -- where code stands; and that, with what is known of the numbers before, no others are stored
+    pub record StandsAt (known : Type 0) (after : List ℕ) (p : Place) (c : Cursor) : Type 0 where
+      pub place : cursor-in after p ≡ c
+      pub only : known → OnlyThese after p
+
     -- the first step
-    abbrev pub Begins : Answers Reply → (after : List ℕ) → Place → Type 0
-    Begins β after p = cursor-in after p ≡ begin-on β message-of
+    abbrev pub Begins : Answers Reply → (before after : List ℕ) → Place → Type 0
+    Begins β before after p = StandsAt (NoneFrom 0 before) after p (begin-on β message-of)
 
     -- an answer, which is among the replies taken
     abbrev pub Moves : Answers Reply → (before : List ℕ) → Place → Reply → (after : List ℕ) → Place → Type 0
-    Moves β before p r after q = cursor-in after q ≡ answered-on β message-of (cursor-in before p) r
+    Moves β before p r after q = StandsAt (OnlyThese before p) after q (answered-on β message-of (cursor-in before p) r)
 
     -- the identifiers from a walk's on
     abbrev pub ComparesFrom : Answers Reply → (before : List ℕ) → Ruling → (walk : ℕ) → (after : List ℕ) → Place → Type 0
     ComparesFrom β before r w after q =
-        cursor-in after q ≡ compare-on β message-of (drop (r .begin .0) (message-of .author)) (r .settings) (r .policy) (stored-at before 0) (passed-from before 1 (w - 1)) (stored-identifiers domains numbers w (given-count + 1 - w))
+        StandsAt (NoneFrom w before) after q (compare-on β message-of (drop (r .begin .0) (message-of .author)) (r .settings) (r .policy) (stored-at before 0) (passed-from before 1 (w - 1)) (stored-identifiers domains numbers w (given-count + 1 - w)))

@@ -1,10 +1,12 @@
 -- `verdict_found::found` meets its contract.
+use mathlib.Core.Path.{refl}
 use borrow.Author.Needs.{needs}
 use Rattle.walk_known.specs.code.Kept.{kept-answers}
 use Rattle.walk_progress.specs.code.Stops.{reached-in}
 use Rattle.verdict_judgement.specs.code.Judging.{stored-message}
 use Rattle.verdict_cursor.specs.code.Cursor.{apply-reached}
 use Rattle.verdict_cursor.specs.code.Standing.{cursor-in}
+use Rattle.verdict_cursor.proofs.PassedLaws.{only-at-open}
 use Rattle.verdict_found.proofs.FoundLaws.{finds-error, finds-none, finds-record}
 use Rattle.verdict_found.proofs.found.Statement.{statement}
 use Rattle.verdict_found.proofs.found.Tie as tie
@@ -44,14 +46,14 @@ judge-requires c κs = search needs
 
 returns : tie.Need-returns
 unfolding cursor-in apply-reached reached-in stored-message
-returns c = rw (c .author .ensures, c .before .before .w .given .1)
+returns c = rw (c .author .ensures, c .before .before .w .given .1) (record { place = refl; only = λ z. only-at-open _ _ _ _ _ _ refl z })
 
 returns-2 : tie.Need-returns-2
 returns-2 c =
     let put = c .before in
     let told = put .before .before in
     let a = told .before .before .before .before .before .args in
-    rw (c .not-known .ensures, told .enum-told .given .1) (finds-error (a .domains .now) (a .numbers .now) (a .t) (kept-answers (a .domains .now) (a .count) (a .kept .now)) _ (put .put-number .ensures))
+    rw (c .not-known .ensures, told .enum-told .given .1) (finds-error (a .domains .now) (a .numbers .now) (a .t) (kept-answers (a .domains .now) (a .count) (a .kept .now)) _ _ (put .put-number .ensures))
 
 returns-3 : tie.Need-returns-3
 returns-3 c =
@@ -59,14 +61,14 @@ returns-3 c =
     let told = s .before .before in
     let w = told .before .before .before in
     let a = w .before .before .before .before .before .args in
-    rw (c .no-record .ensures, w .w2 .given .1) (finds-none (a .domains .now) (a .numbers .now) (a .t) (kept-answers (a .domains .now) (a .count) (a .kept .now)) _ _ (told .enum-told2 .given .1) (s .store .ensures))
+    rw (c .no-record .ensures, w .w2 .given .1) (finds-none (a .domains .now) (a .numbers .now) (a .t) (kept-answers (a .domains .now) (a .count) (a .kept .now)) _ _ _ (told .enum-told2 .given .1) (s .store .ensures))
 
 returns-4 : tie.Need-returns-4
 returns-4 c =
     let told = c .before .before .before in
     let w = told .before .before .before in
     let a = w .before .before .before .before .before .args in
-    rw (w .w2 .given .1) (finds-record (a .domains .now) (a .numbers .now) (a .t) (kept-answers (a .domains .now) (a .count) (a .kept .now)) _ _ _ _ _ (told .applicable .given .1) (c .judge .ensures))
+    rw (w .w2 .given .1) (finds-record (a .domains .now) (a .numbers .now) (a .t) (kept-answers (a .domains .now) (a .count) (a .kept .now)) _ _ _ _ _ _ (told .applicable .given .1) (c .judge .ensures))
 
 pub found-spec : {M : Type 1} → statement M
 found-spec =

@@ -34,14 +34,14 @@ returns c =
     let f = told .before .before in
     let a = f .before .before .before .before .args in
     rw (c .not-usable .ensures)
-    (judges-not-usable (a .domains .now) (a .numbers .now) (a .t) (kept-answers (a .domains .now) (a .count) (a .kept .now)) _ (a .begin) (a .settings) (a .o) (sym (f .in-force .ensures) ∙ told .enum-told .given .1) (s .store .ensures))
+    (judges-not-usable (a .domains .now) (a .numbers .now) (a .t) (kept-answers (a .domains .now) (a .count) (a .kept .now)) _ _ (a .begin) (a .settings) (a .o) (sym (f .in-force .ensures) ∙ told .enum-told .given .1) (s .store .ensures))
 
 returns-2 : tie.Need-returns-2
 returns-2 c =
     let told = c .before .before .before .before in
     let f = told .before .before in
     let a = f .before .before .before .before .args in
-    judges-usable (a .domains .now) (a .numbers .now) (a .t) (kept-answers (a .domains .now) (a .count) (a .kept .now)) _ _ (a .begin) (a .settings) _ (a .o) _ (sym (f .in-force .ensures) ∙ told .used .given .1) (c .before .before .find-policy .ensures) (c .compare-all .ensures)
+    judges-usable (a .domains .now) (a .numbers .now) (a .t) (kept-answers (a .domains .now) (a .count) (a .kept .now)) _ _ _ (a .begin) (a .settings) _ (a .o) _ (sym (f .in-force .ensures) ∙ told .used .given .1) (c .before .before .find-policy .ensures) (c .compare-all .ensures)
 
 pub judge-spec : {M : Type 1} → statement M
 judge-spec =

@@ -10,11 +10,12 @@ use Rattle.domain.specs.declared.Octet.{Octet}
 use Rattle.domain.specs.Domain.{asked-name}
 use Rattle.alignment_stored.specs.code.Stored.{slot, stored-identifiers}
 use Rattle.alignment_settle.specs.declared.Tally.{Tally}
-use Rattle.alignment_settle.specs.code.Tallies.{alignment-digits, alignments-in}
+use Rattle.alignment_settle.specs.code.Tallies.{alignment-digits}
 use Rattle.verdict.specs.declared.Result.{Result}
 use Rattle.verdict.specs.declared.AppliedPolicy.{AppliedPolicy}
 use Rattle.verdict.specs.Message.{Message}
 use Rattle.verdict.specs.Verdict.{disposition-of, Verdict}
+use Rattle.verdict_judgement.specs.Reading.{verdict-in}
 use Rattle.verdict_judgement.specs.declared.Terms.{Terms}
 use Rattle.verdict_judgement.specs.declared.Judgement.{Judgement}
 use Rattle.verdict_judgement.specs.declared.Judged.{Judged}
@@ -41,16 +42,6 @@ judgement support begin r p digits = record {
   policy = p;
   disposition = disposition-of support p r;
   alignments = digits;
-}
-
--- a verdict in numbers, read
-unfoldable pub verdict-in : Message → Judgement → Verdict
-verdict-in m j = record {
-  result = j .result;
-  domain = drop (j .begin .0) (m .author);
-  policy = j .policy;
-  disposition = j .disposition;
-  alignments = alignments-in (length (m .identifiers)) (j .alignments);
 }
 
 -- the numbers of a verdict: where its domain begins in the author domain, and its alignments' digits

@@ -13,14 +13,14 @@ slot-requires c κs = search needs
 turn-requires : tie.Need-turn-requires
 turn-requires c κs = search needs
 
+gone-requires : tie.Need-gone-requires
+gone-requires c κs = search needs
+
 in-force-requires : tie.Need-in-force-requires
 in-force-requires c κs = search needs
 
 enum-told : tie.Need-enum-told
 enum-told c = search needs
-
-halted-requires : tie.Need-halted-requires
-halted-requires c κs = search needs
 
 store-requires : tie.Need-store-requires
 store-requires c κs = search needs
@@ -38,16 +38,16 @@ returns : tie.Need-returns
 unfolding stored-message
 returns c =
     let s = c .before in
-    let h = s .before .before in
-    let told = h .before in
+    let told = s .before .before in
     let f = told .before .before in
-    let n = f .before .before in
+    let g = f .before in
+    let n = g .before .before in
     let a = n .before .before .before .before .args in
     rw (c .not-usable .ensures)
-    (owns-not-usable (a .domains .now) (a .numbers .now) (a .t) (kept-answers (a .domains .now) (a .count) (a .kept .now)) _ (a .settings) (f .before .turn .result) (h .halted .result)
+    (owns-not-usable (a .domains .now) (a .numbers .now) (a .t) (kept-answers (a .domains .now) (a .count) (a .kept .now)) _ _ (a .settings) (g .before .turn .result) (g .gone .result)
     (sym (f .in-force .ensures) ∙ told .enum-told .given .1)
-    (rw (n .slot .ensures) at (f .before .turn .ensures))
-    (rw (n .slot .ensures) at (h .halted .ensures))
+    (rw (n .slot .ensures) at (g .before .turn .ensures))
+    (rw (n .slot .ensures) at (g .gone .ensures))
     (s .store .ensures))
 
 returns-2 : tie.Need-returns-2
@@ -55,11 +55,13 @@ unfolding stored-message
 returns-2 c =
     let told = c .before .before .before in
     let f = told .before .before in
-    let n = f .before .before in
+    let g = f .before in
+    let n = g .before .before in
     let a = n .before .before .before .before .args in
-    owns-usable (a .domains .now) (a .numbers .now) (a .t) (kept-answers (a .domains .now) (a .count) (a .kept .now)) _ _ (a .settings) _ (f .before .turn .result)
+    owns-usable (a .domains .now) (a .numbers .now) (a .t) (kept-answers (a .domains .now) (a .count) (a .kept .now)) _ _ _ (a .settings) _ (g .before .turn .result) (g .gone .result)
     (sym (f .in-force .ensures) ∙ told .used .given .1)
-    (rw (n .slot .ensures) at (f .before .turn .ensures))
+    (rw (n .slot .ensures) at (g .before .turn .ensures))
+    (rw (n .slot .ensures) at (g .gone .ensures))
     (c .judge-own .ensures)
 
 pub apply-own-spec : {M : Type 1} → statement M
@@ -68,9 +70,9 @@ apply-own-spec =
     (tie.spec
     slot-requires
     turn-requires
+    gone-requires
     in-force-requires
     enum-told
-    halted-requires
     store-requires
     not-usable-requires
     enum-known-used

@@ -16,26 +16,19 @@ find-policy-requires c κs = search needs
 any-must-walk-requires : tie.Need-any-must-walk-requires
 any-must-walk-requires c κs = search needs
 
-gone-requires : tie.Need-gone-requires
-gone-requires c κs = search needs
-
 complete-requires : tie.Need-complete-requires
 complete-requires c κs = search needs
 
 returns : tie.Need-returns
 unfolding stored-message
 returns c =
-    let g = c .before .before in
-    let k = g .before .before in
+    let taken = c .before .before in
+    let k = taken .before in
     let n = k .before .before in
     let a = n .before .before .before .before .args in
-    judges-walked (a .domains .now) (a .numbers .now) (a .t) (kept-answers (a .domains .now) (a .count) (a .kept .now)) _ _ (a .settings) (a .turned) _ (k .before .find-policy .ensures) (g .gone .result)
-    (sym (g .before .if1 .taken) ∙ (rw (n .slot .ensures) at (k .any-must-walk .ensures)))
-    (rw (n .slot .ensures) at (g .gone .ensures))
+    judges-walked (a .domains .now) (a .numbers .now) (a .t) (kept-answers (a .domains .now) (a .count) (a .kept .now)) _ _ _ (a .settings) _ (k .before .find-policy .ensures) (a .w)
+    (sym (taken .if1 .taken) ∙ (rw (n .slot .ensures) at (k .any-must-walk .ensures)))
     (c .complete .ensures)
-
-halted-requires : tie.Need-halted-requires
-halted-requires c κs = search needs
 
 compare-all-requires : tie.Need-compare-all-requires
 compare-all-requires c κs = search needs
@@ -43,13 +36,12 @@ compare-all-requires c κs = search needs
 returns-2 : tie.Need-returns-2
 unfolding stored-message
 returns-2 c =
-    let h = c .before .before in
-    let k = h .before .before in
+    let left = c .before .before in
+    let k = left .before in
     let n = k .before .before in
     let a = n .before .before .before .before .args in
-    judges-unwalked (a .domains .now) (a .numbers .now) (a .t) (kept-answers (a .domains .now) (a .count) (a .kept .now)) _ _ (a .settings) (a .turned) _ (k .before .find-policy .ensures) (h .halted .result)
-    (sym (h .before .if1 .left) ∙ (rw (n .slot .ensures) at (k .any-must-walk .ensures)))
-    (rw (n .slot .ensures) at (h .halted .ensures))
+    judges-unwalked (a .domains .now) (a .numbers .now) (a .t) (kept-answers (a .domains .now) (a .count) (a .kept .now)) _ _ _ (a .settings) _ (k .before .find-policy .ensures) (a .w)
+    (sym (left .if1 .left) ∙ (rw (n .slot .ensures) at (k .any-must-walk .ensures)))
     (c .compare-all .ensures)
 
 pub judge-own-spec : {M : Type 1} → statement M
@@ -59,9 +51,7 @@ judge-own-spec =
     slot-requires
     find-policy-requires
     any-must-walk-requires
-    gone-requires
     complete-requires
     returns
-    halted-requires
     compare-all-requires
     returns-2)

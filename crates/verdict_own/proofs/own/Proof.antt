@@ -39,7 +39,7 @@ returns c =
     let put = c .before in
     let told = put .before .before in
     let a = told .before .before .before .before .before .args in
-    rw (c .not-known .ensures, told .enum-told .given .1) (owns-error (a .domains .now) (a .numbers .now) (a .t) (kept-answers (a .domains .now) (a .count) (a .kept .now)) _ (put .put-number .ensures))
+    rw (c .not-known .ensures, told .enum-told .given .1) (owns-error (a .domains .now) (a .numbers .now) (a .t) (kept-answers (a .domains .now) (a .count) (a .kept .now)) _ _ (put .put-number .ensures))
 
 returns-2 : tie.Need-returns-2
 unfolding stored-message found-in
@@ -48,7 +48,7 @@ returns-2 c =
     let n = w .before in
     let told = n .before in
     let a = told .before .before .before .before .before .args in
-    rw (told .enum-told2 .given .1) (owns-none (a .domains .now) (a .numbers .now) (a .t) (kept-answers (a .domains .now) (a .count) (a .kept .now)) _ _ (w .reach-on .result) (rw (n .slot .ensures) at (w .reach-on .ensures)) (c .found .ensures))
+    rw (told .enum-told2 .given .1) (owns-none (a .domains .now) (a .numbers .now) (a .t) (kept-answers (a .domains .now) (a .count) (a .kept .now)) _ _ _ (w .reach-on .result) (rw (n .slot .ensures) at (w .reach-on .ensures)) (c .found .ensures))
 
 returns-3 : tie.Need-returns-3
 returns-3 c = rw (c .before .before .before .r .given .1) (c .apply-own .ensures)

@@ -3,7 +3,7 @@ use mathlib.Core.Path.{ap}
 use borrow.Author.Needs.{needs}
 use Rattle.walk_progress.specs.code.Reaching.{progress-of}
 use Rattle.walk_progress.specs.code.Stops.{reached-in}
-use Rattle.verdict_pass.specs.code.Passing.{stores, passed-by, passed-in}
+use Rattle.verdict_pass.specs.code.Passing.{stores, passed-by, passed-within, passed-in}
 use Rattle.verdict_pass.proofs.pass.Statement.{statement}
 use Rattle.verdict_pass.proofs.pass.Tie as tie
 
@@ -20,16 +20,16 @@ enum-told-2 : tie.Need-enum-told-2
 enum-told-2 c = search needs
 
 returns : tie.Need-returns
-unfolding reached-in passed-by passed-in
-returns c = λ h. rw (c .before .w .given .1)
+unfolding reached-in passed-by passed-within passed-in
+returns c = rw (c .before .w .given .1)
 
 returns-2 : tie.Need-returns-2
-unfolding reached-in progress-of passed-by passed-in
-returns-2 c = λ h. rw (c .enum-told .given .1) (ap stores (rw (c .enum-told .given .1) at (c .before .before .stored-number .ensures h)))
+unfolding reached-in progress-of passed-by passed-within passed-in
+returns-2 c = rw (c .enum-told .given .1) (ap stores (rw (c .enum-told .given .1) at (c .before .before .stored-number .ensures)))
 
 returns-3 : tie.Need-returns-3
-unfolding reached-in progress-of passed-by passed-in
-returns-3 c = λ h. rw (c .enum-told2 .given .1) (ap stores (rw (c .enum-told2 .given .1) at (c .before .before .stored-number .ensures h)))
+unfolding reached-in progress-of passed-by passed-within passed-in
+returns-3 c = rw (c .enum-told2 .given .1) (ap stores (rw (c .enum-told2 .given .1) at (c .before .before .stored-number .ensures)))
 
 pub pass-spec : {M : Type 1} → statement M
 pass-spec =

@@ -5,7 +5,7 @@ use Rattle.walk_known.specs.code.Kept.{kept-answers}
 use Rattle.alignment_stored.specs.code.Stored.{slot, identifier-at}
 use Rattle.walk_progress.specs.code.Stops.{stored-of}
 use Rattle.verdict_pass.specs.code.Passing.{passed-by, passed-in}
-use Rattle.verdict_pass.proofs.PassingLaws.{not-walked, is-passed}
+use Rattle.verdict_pass.proofs.PassingLaws.{not-walked, is-passed, passed-short}
 use Rattle.alignment_stored.proofs.StoredLaws.{slot-size}
 use Rattle.verdict_pass.proofs.pass_at.Statement.{statement}
 use Rattle.verdict_pass.proofs.pass_at.Tie as tie
@@ -28,7 +28,8 @@ returns c =
     let b = c .before .before .before .before in
     let a = b .before .before .before .before .args in
     let d = c .before .before .slot in
-    rw (d .ensures) at (c .pass .ensures (rw (d .ensures) (slot-size (a .domains .now) (a .numbers .now) (a .walk))))
+    rw (d .ensures) at (c .pass .ensures)
+    ∙ passed-short (slot (a .domains .now) (a .numbers .now) (a .walk)) _ (slot-size (a .domains .now) (a .numbers .now) (a .walk))
     ∙ rw (d .ensures) at (ap (passed-by (slot (a .domains .now) (a .numbers .now) (a .walk))) (c .before .reach .ensures))
     ∙ is-passed (kept-answers (a .domains .now) (a .count) (a .kept .now)) (a .s) (slot (a .domains .now) (a .numbers .now) 0) (stored-of (a .author)) (identifier-at (a .domains .now) (a .numbers .now) (a .walk)) (sym (b .is-walked .ensures) ∙ c .before .before .before .if1 .taken)
 

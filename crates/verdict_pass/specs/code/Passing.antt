@@ -6,10 +6,11 @@ use Rattle.domain.specs.Domain.{Domain, targets}
 use Rattle.policy.specs.declared.Settings.{Settings}
 use Rattle.txt.specs.declared.Reply.{Reply}
 use Rattle.alignment.specs.Alignments.{Identifier, settled-alignment}
-use Rattle.walk.specs.Stored.{Stored, still-open, stored-domain}
+use Rattle.walk_progress.specs.code.Stored.{Stored, still-open, stored-domain}
 use Rattle.walk_progress.specs.code.Progress.{ended, stored-in}
 use Rattle.walk_progress.specs.code.Reaching.{Pause, Reached, pauses, over, reach}
 use Rattle.walk_progress.specs.code.Stops.{pause-in, stored-of}
+use Rattle.walk_turn.specs.code.Storing.{within-253}
 use Rattle.verdict_cursor.specs.code.Cursor.{is-walked}
 use Rattle.verdict_pass.specs.declared.Passing.{Passing}
 
@@ -22,6 +23,11 @@ pub data Passed : Type 0 where
 unfoldable pub passed-by : Domain → Reached → Passed
 passed-by d (pauses q) = pauses-at q
 passed-by d (over w) = stores (stored-in d (ended w))
+
+-- with a place past 253 not stored
+unfoldable pub passed-within : Passed → Passed
+passed-within (pauses-at q) = pauses-at q
+passed-within (stores x) = stores (within-253 x)
 
 -- one that is not walked is passed
 unfoldable pub passed-at : Answers Reply → Settings → (author : Domain) → Stored → Identifier → Passed

@@ -9,7 +9,7 @@ use Rattle.domain.specs.Domain.{Domain, begin-of, targets}
 use Rattle.policy.specs.declared.Psd.{Psd}
 use Rattle.txt.specs.declared.Reply.{Reply}
 use Rattle.walk.specs.Walk.{Found, found}
-use Rattle.walk.specs.Stored.{Stored, still-open, failed, from}
+use Rattle.walk_progress.specs.code.Stored.{Stored, still-open, failed, from}
 use Rattle.walk_progress.specs.code.Summary.{Summary, summarized}
 use Rattle.walk_progress.specs.code.Turns.{last-summary, suffix-summary, summarized-from}
 

@@ -56,11 +56,6 @@ reach β start last (t ∷ ts) = elim (can-ask t) [
 unfoldable pub reach-after : Answers Reply → (start : Domain) → Pause → Reply → Reached
 reach-after β start p r = reach-by start (p .last) (p .target) (p .wider) (λ l. reach β start l (p .more)) r
 
--- a walk that looks no further for now: it is over all the same where no target is left
-unfoldable pub halts : (start : Domain) → List Domain → Option Found → Reached
-halts start [] last = over (just (last-summary start last))
-halts start (t ∷ ts) last = pauses (pause last t (one-more start t) ts)
-
 -- the targets after the domain itself
 unfoldable pub later-targets : Domain → List Domain
 later-targets d = drop 1 (targets d)

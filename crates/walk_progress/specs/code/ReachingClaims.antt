@@ -1,16 +1,16 @@
 -- What holds of a walk that goes as far as the answers taken let it.
 use mathlib.Core.Path.{_≡_}
 use mathlib.Core.List.{List, [], _∷_, _++_}
-use mathlib.Core.Option.{Option, Option·map}
+use mathlib.Core.Option.{Option, some as just, Option·map}
 use Rattle.lookup.specs.Lookup.{Answers, needs, run-over}
 use Rattle.domain.specs.Domain.{Domain, targets, asked-name}
 use Rattle.txt.specs.declared.Reply.{Reply}
 use Rattle.walk.specs.Walk.{Found}
-use Rattle.walk.specs.Stored.{Stored, stored-domain, Afresh}
+use Rattle.walk_progress.specs.code.Stored.{Stored, stored-domain, stored-now}
 use Rattle.walk_progress.specs.code.Summary.{Summary, summarized}
 use Rattle.walk_progress.specs.code.Turns.{one-more}
-use Rattle.walk_progress.specs.code.Progress.{Progress, open-walk, ended, not-begun, KeptWalk, turned, stored-in, InPlaces}
-use Rattle.walk_progress.specs.code.Reaching.{Pause, pauses, reach-by, reach, reach-after, halts, later-targets, progress-of, KeptReached}
+use Rattle.walk_progress.specs.code.Progress.{open-walk, ended, not-begun, KeptWalk, turned, stored-in, InPlaces}
+use Rattle.walk_progress.specs.code.Reaching.{Pause, Reached, pauses, reach-by, reach, reach-after, later-targets, progress-of, KeptReached}
 
 pub record ReachingClaims (β : Answers Reply) (d : Domain) : Type 0 where
   -- the domain itself comes first
@@ -21,16 +21,13 @@ pub record ReachingClaims (β : Answers Reply) (d : Domain) : Type 0 where
   -- and after a turn
   pub turns : (last : Option Found) (t : Domain) (ts : List Domain) (r : Reply) → KeptWalk β d (turned d last t ts r) → InPlaces d (turned d last t ts r)
       → KeptReached β d (reach-by d last t (one-more d t) (λ l. reach β d l ts) r)
-  -- and where it halts after a turn, what is stored is right
-  pub halted : (last : Option Found) (t : Domain) (ts : List Domain) (r : Reply) → KeptWalk β d (turned d last t ts r) → InPlaces d (turned d last t ts r)
-      → Afresh β d (stored-in d (progress-of (reach-by d last t (one-more d t) (halts d ts) r)))
   -- the answer that a pause waited for
   pub answers : (p : Pause) → KeptReached β d (pauses p) → (r : Reply)
       → KeptReached (β ++ ((asked-name (p .target), r) ∷ [])) d (reach-after (β ++ ((asked-name (p .target), r) ∷ [])) d p r)
   -- where it pauses, its target's name is the one needed
   pub asks : (p : Pause) → KeptReached β d (pauses p) → run-over β (summarized d) ≡ needs (asked-name (p .target))
-  -- what is stored of it
-  pub afresh : (p : Progress) → KeptWalk β d p → InPlaces d p → Afresh β d (stored-in d p)
+  -- what is stored of it is what is worked out afresh
+  pub exactly : (w : Reached) → KeptReached β d w → stored-in d (progress-of w) ≡ stored-now β d
   pub same-domain : (s : Option Summary) → InPlaces d (ended s) → stored-domain d (stored-in d (ended s)) ≡ Option·map (λ o. o .organization) s
-  -- and stays right, whatever more is answered
-  pub stays : (γ : Answers Reply) (st : Stored) → Afresh β d st → Afresh (β ++ γ) d st
+  -- and stays so once it has ended, whatever more is answered
+  pub stays : (γ : Answers Reply) (st : Stored) → st ≡ stored-now β d → {o : Domain} → stored-domain d st ≡ just o → st ≡ stored-now (β ++ γ) d

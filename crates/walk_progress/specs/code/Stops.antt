@@ -11,7 +11,7 @@ use Rattle.domain.specs.Domain.{Domain, targets}
 use Rattle.domain_labels.specs.declared.Target.{Target}
 use Rattle.txt.specs.declared.Reply.{Reply}
 use Rattle.walk.specs.Walk.{Found}
-use Rattle.walk.specs.Stored.{Stored, still-open, failed, from}
+use Rattle.walk_progress.specs.code.Stored.{Stored, still-open, failed, from}
 use Rattle.walk_progress.specs.declared.Applicable.{Applicable}
 use Rattle.walk_progress.specs.declared.Stop.{Stop}
 use Rattle.walk_progress.specs.declared.Reach.{Reach}

@@ -1,10 +1,13 @@
 -- `walk_reach::reach` meets its contract.
 use mathlib.Core.Path.{ap, _∙_}
 use borrow.Author.Needs.{needs}
+use Rattle.domain_labels.proofs.StartLaws.{targets-counted}
 use Rattle.walk_known.specs.code.Kept.{kept-answers}
+use Rattle.walk_progress.specs.declared.Applicable.{Applicable}
 use Rattle.walk_progress.specs.code.Summary.{found-in}
 use Rattle.walk_progress.specs.code.Reaching.{reach}
 use Rattle.walk_progress.proofs.StopLaws.{left-whole}
+use Rattle.walk_step.proofs.StepLaws.{reaches-from}
 use Rattle.walk_reach.proofs.reach.Statement.{statement}
 use Rattle.walk_reach.proofs.reach.Tie as tie
 
@@ -24,7 +27,8 @@ returns c =
     let pass = c .before .before .find-starts .ensures in
     let a = c .before .before .before .before .before .before .args in
     let β = kept-answers (a .domains .now) (a .count) (a .kept .now) in
-    c .reach-from .ensures pass ∙ ap (reach β (a .d .now) _) (left-whole (a .d .now) _ (number .ensures (a .d .now) pass))
+    reaches-from β (a .d .now) _ pass Applicable.Nothing _ _ (c .reach-from .ensures)
+    ∙ ap (reach β (a .d .now) _) (left-whole (a .d .now) _ (targets-counted (a .d .now) _ pass _ (number .ensures)))
 
 pub reach-spec : {M : Type 1} → statement M
 reach-spec =

@@ -4,6 +4,7 @@ use borrow.Author.Needs.{needs}
 use Rattle.walk_known.specs.code.Kept.{kept-answers}
 use Rattle.walk_progress.specs.code.Reaching.{reach, reach-after}
 use Rattle.walk_progress.specs.code.Stops.{targets-left, pause-in, turned-in}
+use Rattle.walk_step.proofs.StepLaws.{reaches-from}
 use Rattle.walk_reach.proofs.reach_after.Statement.{statement}
 use Rattle.walk_reach.proofs.reach_after.Tie as tie
 
@@ -41,7 +42,10 @@ returns-2 : tie.Need-returns-2
 unfolding turned-in
 returns-2 c =
     let b = c .before .before .before in
-    c .reach-from .ensures (c .before .find-starts .ensures) ∙ rw (b .next .given .1) at (after (b .before .before))
+    let a = b .before .before .before .before .before .before .before .before .args in
+    let β = kept-answers (a .domains .now) (a .count) (a .kept .now) in
+    reaches-from β (a .d .now) _ (c .before .find-starts .ensures) _ _ _ (c .reach-from .ensures)
+    ∙ rw (b .next .given .1) at (after (b .before .before))
 
 pub reach-after-spec : {M : Type 1} → statement M
 reach-after-spec =

@@ -1,7 +1,7 @@
 -- `waslidhaj_reads::waslidhaj_name` meets its contract, by what its calls promise.
 use mathlib.Core.Path.{ap, _∙_}
 use Rattle.octets.specs.Lent.{written-numbers}
-use Rattle.evaluation.specs.code.View.{marked}
+use Rattle.evaluation.specs.GivenBack.{marked}
 use Rattle.evaluation_numbers.specs.Numbers.{held-of}
 use borrow.Author.Needs.{needs}
 use Rattle.waslidhaj_reads.proofs.waslidhaj_name.Statement.{statement}

@@ -21,6 +21,8 @@ wrongs! {
     RefusalOfAnotherCall
     NumberZero
     AskWithALength
+    AskNotDeferred
+    RefusalNotDeferred
     ResultAccepted
     NameTooLong
     NamePastItsEnd
@@ -56,6 +58,10 @@ impl Interface for Spoilt {
             match self.0 {
                 RefusalOfAnotherCall => called.given.refusal.number = 7,
                 NumberZero => called.given.refusal.number = 0,
+                RefusalNotDeferred => {
+                    let verdict = &mut called.given.verdict;
+                    (verdict.result, verdict.policy, verdict.disposition) = (0, 0, 0);
+                }
                 _ => {}
             }
         }
@@ -68,8 +74,12 @@ impl Interface for Spoilt {
 
     fn next(&self, state: State) -> Called {
         let mut called = calls::next(state);
-        if self.is(AskWithALength) && called.given.kind == raw::ASK {
-            called.given.length = 1;
+        if called.given.kind == raw::ASK {
+            match self.0 {
+                AskWithALength => called.given.length = 1,
+                AskNotDeferred => called.given.verdict.disposition = 0,
+                _ => {}
+            }
         }
         called
     }

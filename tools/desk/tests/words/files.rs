@@ -4,8 +4,7 @@ use std::fs::{self, File, Permissions};
 use std::os::unix::fs::PermissionsExt;
 use std::process::{Command, Stdio};
 
-use desk::root;
-use desk::script::Folder;
+use desk::script::{dmarc, Folder};
 
 const MESSAGE: &str = "author b exists supported\nanswer _dmarc.b none\n";
 
@@ -133,7 +132,7 @@ fn standard_output_that_is_full_or_closed() {
     ] {
         for to in [">/dev/full", ">&-"] {
             let mut shell = Command::new("bash");
-            let line = format!("exec {}/dmarc {words} {to}", root().display());
+            let line = format!("exec {} {words} {to}", dmarc().display());
             shell.args(["-c", &line]).current_dir(folder.path());
             let ended = desk::script::ended(shell, b"");
             assert_eq!(
@@ -149,7 +148,7 @@ fn standard_output_that_is_full_or_closed() {
 fn standard_input_that_is_closed() {
     let folder = Folder::new();
     let mut shell = Command::new("bash");
-    let line = format!("exec {}/dmarc - <&-", root().display());
+    let line = format!("exec {} - <&-", dmarc().display());
     shell.args(["-c", &line]).current_dir(folder.path());
     let ended = desk::script::ended(shell, b"");
     let said = "dmarc: standard input cannot be read; is it closed?\n";
@@ -159,14 +158,14 @@ fn standard_input_that_is_closed() {
 #[test]
 fn no_room_for_temporary_files() {
     let folder = Folder::with("x.txt", MESSAGE);
-    let mut command = Command::new(root().join("dmarc"));
+    let mut command = Command::new(dmarc());
     command.arg("x.txt").current_dir(folder.path());
     command
         .env("TMPDIR", "/no such folder")
         .stdin(Stdio::null());
     let ended = desk::script::ended(command, b"");
     let said = "dmarc: no temporary folder can be made in /no such folder; \
-                set TMPDIR to one that can be written\n";
+                set TMPDIR to one that can be written and has room\n";
     assert_eq!((ended.status, ended.said.as_str()), (1, said));
 }
 

@@ -1,6 +1,12 @@
 //! What the script builds, what it says on the way, and what it does without.
 
+use std::fs::File;
+use std::process::Stdio;
+
 use crate::house::{House, PRINTED};
+
+pub const LOOKING: &str = "dmarc: looking at 4 crates, and proving those that have no proof yet; \
+                           the first time this takes some minutes";
 
 /// A made-up prover: says one crate unchanged and three proved, and makes the
 /// program.
@@ -10,36 +16,49 @@ fn prover(house: &House) {
 echo 'rt: octets proved (unchanged since it was last proved)'
 echo 'many lines of its own' >&2
 for name in domain policy dmarc; do echo \"rt: $name proved (3 s)\"; done
-mkdir -p target/bin
-printf '#!/usr/bin/env bash\\nprintf \"{}\"\\n' > target/bin/dmarc
-chmod 755 target/bin/dmarc",
-        PRINTED.replace('\n', "\\\\n")
+{}: > target/stamp/dmarc",
+        House::makes_program()
     );
     house.program("bin/rt", &lines);
 }
 
 impl House {
     /// Prints nothing, says this and ends with 1.
-    fn fails(&self, words: &[&str], said: &str) {
+    pub fn fails(&self, words: &[&str], said: &str) {
         let ended = self.dmarc(words);
         assert_eq!(ended.said, format!("{said}\n"));
         assert_eq!((ended.status, ended.printed.as_str()), (1, ""));
     }
 }
 
+/// Words with each time that is gone, as in (2m05s gone), as (gone).
+pub fn timeless(said: &str) -> String {
+    let line = |line: &str| match line.split_once(" (") {
+        Some((words, time)) if is_time(time) => format!("{words} (gone)\n"),
+        _ => format!("{line}\n"),
+    };
+    said.lines().map(line).collect()
+}
+
+fn is_time(words: &str) -> bool {
+    let time = words.strip_suffix("s gone)").unwrap_or_default();
+    let numbers = time.split('m').map(|number| number.parse::<u32>().is_ok());
+    numbers.eq([true, true])
+}
+
 #[test]
 fn one_line_for_each_crate_and_the_log_in_a_file() {
     let house = House::new().with_tools();
-    house.folder.write("target/stamp/octets", "");
     prover(&house);
     let first = house.dmarc(&["x.txt"]);
-    let said = "dmarc: rt check dmarc: 3 crates are to be proved; \
-                the first time this takes some minutes
-dmarc: proving 1 of 3: domain
-dmarc: proving 2 of 3: policy
-dmarc: proving 3 of 3: dmarc
-";
-    assert_eq!(first.said, said);
+    let said = format!(
+        "{LOOKING}
+dmarc: 2 of 4 proved: domain (gone)
+dmarc: 3 of 4 proved: policy (gone)
+dmarc: 4 of 4 proved: dmarc (gone)
+"
+    );
+    assert_eq!(timeless(&first.said), said);
     assert_eq!((first.status, first.printed.as_str()), (0, PRINTED));
     let log = house.folder.read("target/log/dmarc-build.log");
     assert_eq!(log.lines().count(), 5);
@@ -49,21 +68,58 @@ dmarc: proving 3 of 3: dmarc
     assert_eq!((second.status, second.said.as_str()), (0, ""));
 }
 
+/// A touched file is looked at, and no word is said of proving it.
 #[test]
-fn what_stands_on_a_changed_crate_is_counted() {
+fn where_all_is_proved_nothing_is_said_to_be_proved() {
+    let house = House::new().with_tools().with_program();
+    house.make_older("target/bin/dmarc");
+    let lines = "for name in octets domain policy dmarc; do
+  echo \"rt: $name proved (unchanged since it was last proved)\"
+done";
+    house.program("bin/rt", lines);
+    let touched = house.dmarc(&["x.txt"]);
+    assert_eq!(touched.said, format!("{LOOKING}\n"));
+    assert_eq!((touched.status, touched.printed.as_str()), (0, PRINTED));
+    // It is looked at once.
+    assert_eq!(house.dmarc(&["x.txt"]).said, "");
+}
+
+/// The prover looks, while it runs, at what was said so far, and fails if that is
+/// not all there was to say.
+#[test]
+fn words_come_when_there_is_something_to_say() {
     let house = House::new().with_tools();
-    for name in ["octets", "policy", "dmarc"] {
-        house.folder.write(&format!("target/stamp/{name}"), "");
-    }
-    prover(&house);
-    // `domain` has no proof, so `dmarc` above it is proved again; the prover
-    // here proves `policy` as well.
-    let said = house.dmarc(&["x.txt"]).said;
-    assert!(
-        said.starts_with("dmarc: rt check dmarc: 2 crates "),
-        "{said}"
+    let lines = format!(
+        "said() {{ for _ in {{1..50}}; do ! grep -q \"$1\" said || return 0; sleep 0.1; done; exit 1; }}
+said 'looking at 4 crates'
+sleep 1.1
+echo 'rt: octets proved (1 s)'
+said '1 of 4 proved: octets (0m0[1-9]s gone)'
+{}: > target/stamp/dmarc",
+        House::makes_program()
     );
-    assert!(said.ends_with("dmarc: proving 3 of 3: dmarc\n"), "{said}");
+    house.program("bin/rt", &lines);
+    let mut command = house.script("dmarc");
+    let said = File::create(house.path("said")).expect("a file");
+    let status = command
+        .arg("x.txt")
+        .stderr(said)
+        .stdout(Stdio::null())
+        .status();
+    assert!(
+        status.expect("a script").success(),
+        "{}",
+        house.folder.read("said")
+    );
+}
+
+#[test]
+fn tools_are_said_to_be_built_before_they_are() {
+    let house = House::new().with_program();
+    house.program("bin/cargo", "echo 'words of cargo' >&2; exit 101");
+    let said = house.dmarc(&["x.txt"]).said;
+    let begin = "dmarc: building tools/sheets, which takes up to a minute\nwords of cargo\n";
+    assert!(said.starts_with(begin), "{said}");
 }
 
 #[test]
@@ -73,16 +129,14 @@ fn a_prover_that_fails() {
         "bin/rt",
         "echo 'rt: octets NOT PROVED (exit 1, 2 s)'; exit 1",
     );
-    let begin = "dmarc: rt check dmarc: 4 crates are to be proved; \
-                 the first time this takes some minutes";
-    let failed = "dmarc: rt check dmarc failed; target/log/dmarc-build.log has what it said";
-    house.fails(&["x.txt"], &format!("{begin}\n{failed}"));
+    let failed = "dmarc: rt failed; target/log/dmarc-build.log has what it said";
+    house.fails(&["x.txt"], &format!("{LOOKING}\n{failed}"));
     let log = house.folder.read("target/log/dmarc-build.log");
     assert_eq!(log, "rt: octets NOT PROVED (exit 1, 2 s)\n");
     house.program("bin/rt", "exit 0");
-    let nothing = "dmarc: rt check dmarc made no target/bin/dmarc; \
+    let nothing = "dmarc: rt made no target/bin/dmarc; \
                    target/log/dmarc-build.log has what it said";
-    house.fails(&["x.txt"], &format!("{begin}\n{nothing}"));
+    house.fails(&["x.txt"], &format!("{LOOKING}\n{nothing}"));
 }
 
 #[test]
@@ -98,10 +152,10 @@ fn where_nothing_can_be_written() {
     let house = House::new().with_tools();
     house.program("bin/rt", "exit 0");
     house.folder.write("target", "a file in the folder's place");
-    let path = house.folder.path().canonicalize().expect("a folder");
     let said = format!(
-        "dmarc: {}/target cannot be written, and all is built there; see its permissions",
-        path.display()
+        "dmarc: {} cannot be written, and all is built there; \
+         see its permissions, and whether its disk is full",
+        house.path("target").display()
     );
     house.fails(&["x.txt"], &said);
 }
@@ -141,17 +195,17 @@ fn without_cargo() {
 fn a_build_that_fails() {
     let house = House::new().with_program();
     house.program("bin/cargo", "echo 'no space' >&2; exit 101");
-    let path = house.folder.path().canonicalize().expect("a folder");
     let said = format!(
-        "no space\ndmarc: tools/ could not be built; can {}/tools/target be written?",
-        path.display()
+        "dmarc: building tools/sheets, which takes up to a minute\nno space\n\
+         dmarc: tools/ could not be built; can {} be written?",
+        house.path("tools/target").display()
     );
     house.fails(&["x.txt"], &said);
 }
 
 #[test]
 fn where_the_two_evaluators_differ_nothing_is_explained() {
-    let house = House::new().with_tools();
+    let house = House::new().with_tools().with_program();
     let other = PRINTED.replace("none", "pass");
     house.program("target/bin/dmarc", &format!("printf '{other}'"));
     let differ = "dmarc: the second evaluator prints something else for this message, \
@@ -165,7 +219,7 @@ fn where_the_two_evaluators_differ_nothing_is_explained() {
 
 #[test]
 fn a_program_that_does_not_print_all() {
-    let house = House::new().with_tools();
+    let house = House::new().with_tools().with_program();
     house.program("target/bin/dmarc", "printf 'ask _dmarc.b\\n'");
     let ended = house.dmarc(&["x.txt"]);
     assert!(ended

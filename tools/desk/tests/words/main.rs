@@ -2,8 +2,11 @@
 //! be there: `rt check dmarc` makes it.
 
 mod answers;
+mod builds;
 mod files;
 mod first_run;
+mod full;
 mod house;
 mod refusals;
+mod stops;
 mod verdicts;

@@ -1,5 +1,8 @@
 //! The program `dmarc-records`: what it prints, where, and how it ends.
 
+use std::fs::File;
+use std::process::Command;
+
 use crate::program::output;
 
 /// Exit status, standard output and standard error.
@@ -69,6 +72,38 @@ fn no_record_ends_with_1() {
         b"v=DMARC1; p=none; P=none\n",
         "no policy record: tag p is written twice\n",
     );
+}
+
+/// A text of so many octets, all but the first part an unknown tag's.
+fn long(octets: usize) -> Vec<u8> {
+    let mut text = b"v=DMARC1; p=none; x=".to_vec();
+    text.resize(octets, b'a');
+    text
+}
+
+#[test]
+fn a_text_longer_than_any_record() {
+    for end in [b"".as_slice(), b"\n"] {
+        let (status, printed, _) = ends(&["read"], &[&long(65_535), end].concat());
+        assert_eq!(status, Some(0));
+        assert!(printed.starts_with("p: none\n"), "{printed}");
+        fails(
+            &["read"],
+            &[&long(65_536), end].concat(),
+            "no policy record: it is over 65,535 octets, and no TXT record has more\n",
+        );
+    }
+}
+
+#[test]
+fn an_input_that_does_not_end() {
+    let zeros = File::open("/dev/zero").expect("zeros");
+    let ended = Command::new(env!("CARGO_BIN_EXE_dmarc-records"))
+        .arg("read")
+        .stdin(zeros)
+        .output();
+    let said = ended.expect("an end").stderr;
+    assert!(said.starts_with(b"no policy record: it is over "));
 }
 
 #[test]

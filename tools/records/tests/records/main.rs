@@ -8,5 +8,5 @@ mod agreeing;
 mod commands;
 mod numbers;
 mod reading;
-mod readme;
+mod times;
 mod writing;

@@ -81,11 +81,12 @@ fn told(call: &Call, state: State, given: &Given) -> Result<Told, String> {
     };
     match *given == alone(given) {
         true => Ok(told),
-        false => Err(format!("what its kind does not have is not 0: {given:?}")),
+        false => Err(format!("more than its kind has: {given:?}")),
     }
 }
 
-/// What is given, but for what its kind does not have.
+/// What is given, but for what its kind does not have: 0, and temperror, unknown
+/// and defer in place of a verdict.
 pub fn alone(given: &Given) -> Given {
     let mut own = Given {
         kind: given.kind,

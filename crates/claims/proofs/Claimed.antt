@@ -1,0 +1,201 @@
+-- All that is claimed holds: each claim by the theorem of its crate.
+use mathlib.Core.Path.{refl}
+use mathlib.Core.List.{List, []}
+use Rattle.lookup.specs.Lookup.{Lookups}
+use Rattle.asking.specs.Asking.{Asking}
+use Rattle.asking.specs.Claims.{AskingClaims, AskingClaimed}
+use Rattle.asking.proofs.AskingLaws.{asking-claimed, no-verdict-yet}
+use Rattle.domain.specs.Claims.{AskedNames}
+use Rattle.domain.proofs.WalkLaws.{walk-targets}
+use Rattle.domain.proofs.AskedLaws.{asked-names}
+use Rattle.domain.proofs.DotLaws.{taken}
+use Rattle.domain.proofs.Dotted.{final-dot}
+use Rattle.policy.proofs.Repeated.{repeated}
+use Rattle.publishing.proofs.Claimed.{publishing-claims}
+use Rattle.publishing.proofs.NumbersBack.{numbers-claims}
+use Rattle.publishing.proofs.RecordExamples.{records-written}
+use Rattle.txt.proofs.Claimed.{reply-claims}
+use Rattle.reporting.proofs.Examples.{examples}
+use Rattle.book.proofs.FieldExamples.{fields-written}
+use Rattle.walk.proofs.Claimed.{walk-claims}
+use Rattle.verdict.specs.Claims.{PassExactly, ErrorShows, AskedAtMost}
+use Rattle.verdict.specs.Mending.{ErrorsMended}
+use Rattle.verdict.proofs.PassExactly.{pass-exactly}
+use Rattle.verdict.proofs.ErrorShows.{error-shows}
+use Rattle.verdict.proofs.Bounds.{asked-at-most}
+use Rattle.verdict.proofs.Mended.{errors-mended}
+use Rattle.verdict.proofs.StoredExamples.{stored-examples}
+use Rattle.verdict.specs.Message.{Message}
+use Rattle.book.specs.Start.{Opened, AsTheSingleStart}
+use Rattle.book.specs.Book.{Call}
+use Rattle.book.specs.BookClaims.{BookClaims, BookClaimed, SameState, NextCloses}
+use Rattle.book.proofs.StartLaws.{as-the-single-start}
+use Rattle.book.proofs.BookLaws.{next-closes, same-state, book-claimed, nothing-yet}
+use Rattle.book.proofs.DotLaws.{same-start, one-name}
+use Rattle.book.proofs.AddingCalls.{adding-calls}
+use Rattle.records.proofs.Claimed.{sheet-claims}
+use Rattle.sheet.specs.Marked.{MarkedSheets}
+use Rattle.sheet.specs.Dotted.{DottedSheets}
+use Rattle.sheet.proofs.Marked.{marked}
+use Rattle.sheet.proofs.Dotted.{dotted-sheets}
+use Rattle.rows.proofs.JudgedExactly.{judged-exactly}
+use Rattle.rows.proofs.ServesNamed.{serves-named}
+use Rattle.rows_day.proofs.Claimed.{day-claims}
+use Rattle.evaluation.specs.MendedRuns.{RunsMended}
+use Rattle.evaluation.specs.StoredAfter.{RunsStore}
+use Rattle.evaluation.proofs.Claimed.{demand-3}
+use Rattle.evaluation.proofs.Mended.{runs-mended}
+use Rattle.evaluation.proofs.Stored.{runs-store}
+use Rattle.evaluation_finding.specs.FoundAfter.{FindsTheBook}
+use Rattle.evaluation_finding.proofs.FoundBook.{finds-the-book}
+use Rattle.evaluation_numbers.specs.Numbers.{result-said, policy-said, disposition-said, accepted-numbers, ask-numbers, refused-numbers}
+use Rattle.evaluation_numbers.proofs.Claimed.{by-numbers}
+use Rattle.claims.specs.Rules.{RulesHold}
+use Rattle.claims.specs.Verdicts.{VerdictsHold}
+use Rattle.claims.specs.Runs.{RunHolds}
+use Rattle.claims.specs.Calls.{Defers, BookHolds, CallsHold}
+use Rattle.claims.specs.Requests.{RowsHold, RecordsHold, DotsHold, ErrorsHold, RequestsHold}
+use Rattle.claims.specs.Delivered.{Delivered}
+
+rules-hold : RulesHold
+unfolding AskedNames
+rules-hold = record {
+  first-target = λ d. walk-targets d .starts;
+  target-count = λ d. walk-targets d .number;
+  labels-left = λ d. walk-targets d .labels-left;
+  marked-by-place = λ d. walk-targets d .ends;
+  names-keep-the-rule = asked-names;
+  two-records = reply-claims .two-records;
+  timeout = reply-claims .timeout;
+  none = reply-claims .none;
+  zero-bytes = reply-claims .zero-bytes;
+  unknown-exactly = walk-claims .unknown-exactly;
+  eight-names = walk-claims .at-most-eight;
+  psd-at-start = walk-claims .psd-at-start;
+  farthest = walk-claims .farthest;
+  sheet-limit = sheet-claims .limit;
+  answered-once = sheet-claims .twice;
+}
+
+verdicts-hold : VerdictsHold
+unfolding PassExactly ErrorShows AskedAtMost MarkedSheets
+verdicts-hold = record {
+  pass-exactly = pass-exactly;
+  error-shows = error-shows;
+  asked-at-most = asked-at-most;
+  marked-sheets = marked;
+  file-names = examples;
+  fields = fields-written;
+}
+
+run-holds : {R A : Type 0} (t : Lookups R A) (s : Asking R) → AskingClaims t s → RunHolds t s
+run-holds t s c = record {
+  each-once = c .each-once;
+  names-at-verdict = c .at-verdict;
+  same-verdict = c .that-verdict;
+  count-is-length = c .counted;
+  both-report = c .reported;
+  first-of-those = c .until-then;
+  comes-to-verdict = c .comes;
+  not-after-last = c .not-after;
+  not-before-last = c .answered;
+  readable-is-kept = c .accepts;
+  refused-answer-stands = c .refused-stands;
+  lacking-is-asked = no-verdict-yet t s .asks;
+  lacking-has-no-result = no-verdict-yet t s .no-result;
+}
+
+book-holds : (m : Message) (cs : List Call) → BookClaims m cs → BookHolds m cs
+book-holds m cs c = record {
+  asked-are-given = c .asked;
+  count-bounded = c .bounded;
+  refused-call-stands = c .refused-stands;
+  sixteen-identifiers = c .up-to-16;
+  adding-in-time = c .in-time;
+  adding-too-late = c .too-late;
+  identifiers-as-added = c .as-they-stand;
+}
+
+calls-hold : CallsHold
+unfolding AskingClaimed BookClaimed NextCloses Defers result-said policy-said disposition-said accepted-numbers ask-numbers refused-numbers
+calls-hold = record {
+  any-run = λ R A t s r. run-holds t s (asking-claimed R A t s r);
+  book-run = λ m o cs. run-holds _ _ (book-claimed m o cs .of-its-run);
+  book = λ m o cs. book-holds m cs (book-claimed m o cs);
+  next-hands-out = λ b. next-closes b .0;
+  next-closes = λ b. next-closes b .1;
+  asks = λ b. nothing-yet b .asks;
+  no-result = λ b. nothing-yet b .no-result;
+  no-field = λ b. nothing-yet b .no-field;
+  as-the-book = demand-3 .as-the-book;
+  before-opening = demand-3 .before-opening;
+  by-numbers = by-numbers;
+  accepted-defers = λ n. (refl, refl, refl);
+  asked-defers = λ w p. (refl, refl, refl);
+  refused-defers = λ f. (refl, refl, refl);
+}
+
+rows-hold : RowsHold
+unfolding FindsTheBook
+rows-hold = record {
+  sum = λ first last before after h never ran is-cleared. day-claims first last before after h .tallies never ran is-cleared .sum;
+  by-disposition = λ first last before after h never ran is-cleared. day-claims first last before after h .tallies never ran is-cleared .by-disposition;
+  by-any = λ first last before after h never ran is-cleared. day-claims first last before after h .tallies never ran is-cleared .by-any;
+  past-untouched = λ first last before after h ran. day-claims first last before after h .untouched ran .past;
+  as-many-rows = λ first last before after h ran. day-claims first last before after h .untouched ran .as-many;
+  day-end-counts = λ d list before r after does accepted. day-claims list list before before [] .day-end d r after does accepted .counts;
+  day-end-no-more = λ d list before r after does accepted. day-claims list list before before [] .day-end d r after does accepted .no-more;
+  judged-exactly = λ m α. judged-exactly m α .judged;
+  serves-named = λ d before after. serves-named d before after .serves-it;
+  finds-the-book = finds-the-book;
+}
+
+records-hold : RecordsHold
+records-hold = record {
+  reads-back = publishing-claims .reads-back;
+  same-settings = publishing-claims .same-settings;
+  no-octet = publishing-claims .no-octet;
+  numbers-back = numbers-claims .back;
+  records-written = records-written;
+}
+
+dots-hold : DotsHold
+unfolding DottedSheets
+dots-hold = record {
+  one-dropped = λ d. taken d .dropped;
+  none-to-drop = λ d. taken d .kept;
+  author-dot = λ d. same-start d .author;
+  identifier-dot = λ d. same-start d .identifier;
+  no-dot-asked = λ m cs. one-name m cs .no-dot;
+  answer-dot = λ m cs. one-name m cs .either;
+  sheet-dot = sheet-claims .no-dot;
+  dots-judged = final-dot;
+  dotted-sheets = dotted-sheets;
+}
+
+errors-hold : ErrorsHold
+unfolding ErrorsMended RunsMended
+errors-hold = record {
+  same = λ m α β h. errors-mended m α β h .same;
+  delayed = λ m α β h. errors-mended m α β h .delayed;
+  fails = λ m α β h. errors-mended m α β h .fails;
+  of-calls = runs-mended;
+}
+
+requests-hold : RequestsHold
+unfolding RunsStore AsTheSingleStart SameState
+requests-hold = record {
+  daily-rows = rows-hold;
+  repeated-tags = repeated;
+  written-records = records-hold;
+  final-dots = dots-hold;
+  errors = errors-hold;
+  stored-afresh = runs-store;
+  stored-examples = stored-examples;
+  as-the-single-start = as-the-single-start;
+  same-state = same-state;
+  adding-calls = adding-calls;
+}
+
+pub delivered : Delivered
+delivered = record { rules = rules-hold; verdicts = verdicts-hold; calls = calls-hold; requests = requests-hold }

@@ -1,0 +1,2 @@
+-- Every claim is proved.
+pub mod Claimed

@@ -1,0 +1,7 @@
+-- Everything that is claimed, by subject: what the definitions say of every input, and what the calls' promises come to.
+pub mod Rules
+pub mod Verdicts
+pub mod Runs
+pub mod Calls
+pub mod Requests
+pub mod Delivered

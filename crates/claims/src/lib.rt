@@ -1,0 +1,1 @@
+// Every claim, written out in one place: claims and their proof.

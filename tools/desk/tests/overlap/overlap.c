@@ -1,0 +1,515 @@
+/* overlap: calls with lent memory that overlaps, each beside the same call with memory that is apart. Both must give the same and
+ * leave the same, and nothing outside the lent output may change. Then NULL for every pointer, and an opening over a used state.
+ * It prints how many calls were compared, or the first difference, and ends with 1 then. */
+#include <stdio.h>
+#include <stdlib.h>
+#include <string.h>
+
+#include "waslidhaj.h"
+
+enum { ARENA = 32768, OUT = 12288, FAR = 4200, PAINT = 0x5a };
+
+/* Where the overlapping call is made, how that was before, and the output of the other call. */
+static uint8_t arena[ARENA] __attribute__((aligned(16)));
+static uint8_t before[ARENA];
+static uint8_t apart[ARENA] __attribute__((aligned(16)));
+
+static const char *doing; /* of what is compared */
+static long shift;
+static size_t compared;
+
+static void differs(const char *what) {
+  printf("%s, shifted by %ld: %s\n", doing, shift, what);
+  exit(1);
+}
+
+/* ---- Memory ---- */
+
+static void paint(void) { memset(arena, PAINT, sizeof arena); }
+
+/* A text where the output would be, so much further on. */
+static uint8_t *place(const void *text, size_t length, long on) {
+  uint8_t *at = arena + OUT + on;
+  memcpy(at, text, length);
+  return at;
+}
+
+/* Keeps what is there, and lends the same apart. */
+static void keep(size_t length) {
+  memcpy(before, arena, sizeof arena);
+  memcpy(apart, arena + OUT, length);
+}
+
+/* Compares what both calls gave and left. */
+static void compare(int same_given, size_t length) {
+  compared++;
+  if (!same_given)
+    differs("another thing is given");
+  if (length > 0 && memcmp(arena + OUT, apart, length) != 0)
+    differs("another thing is left in the output");
+  if (memcmp(arena, before, OUT) != 0 || memcmp(arena + OUT + length, before + OUT + length, ARENA - OUT - length) != 0)
+    differs("memory beside the output is written");
+}
+
+static int same_refusal(waslidhaj_refusal first, waslidhaj_refusal second) {
+  return first.number == second.number && first.place == second.place;
+}
+
+static int same_written(waslidhaj_written first, waslidhaj_written second) {
+  return first.length == second.length && same_refusal(first.refusal, second.refusal);
+}
+
+static int same_given(waslidhaj_given first, waslidhaj_given second) {
+  return first.kind == second.kind && first.walk == second.walk && first.place == second.place &&
+         first.length == second.length && same_refusal(first.refusal, second.refusal) &&
+         first.verdict.result == second.verdict.result && first.verdict.policy == second.verdict.policy &&
+         first.verdict.disposition == second.verdict.disposition && first.verdict.begin == second.verdict.begin &&
+         first.verdict.alignments == second.verdict.alignments && first.verdict.count == second.verdict.count;
+}
+
+/* Every octet up to the last array, and the numbers after it: what is between them is padding. */
+static int same_state(const waslidhaj_state *first, const waslidhaj_state *second) {
+  size_t end = offsetof(waslidhaj_state, stored) + sizeof first->stored;
+  size_t on = offsetof(waslidhaj_state, identifiers);
+  return memcmp(first, second, end) == 0 &&
+         memcmp((const uint8_t *)first + on, (const uint8_t *)second + on, sizeof *first - on) == 0;
+}
+
+/* ---- Answers ---- */
+
+static const char NAME[] = "_dmarc.example.com";
+
+static size_t put_record(uint8_t *to, size_t at, const char *const *strings) {
+  size_t begin = at;
+  at += 4;
+  for (; *strings != NULL; strings++) {
+    size_t length = strlen(*strings);
+    to[at++] = (uint8_t)length;
+    memcpy(to + at, *strings, length);
+    at += length;
+  }
+  memcpy(to + begin, "TX", 2);
+  to[begin + 2] = (uint8_t)((at - begin - 4) >> 8);
+  to[begin + 3] = (uint8_t)((at - begin - 4) & 255);
+  return at;
+}
+
+/* A state that asks for an author's own name. */
+static waslidhaj_state asked_of(const void *author, size_t length) {
+  waslidhaj_called called;
+  memset(&called, 0, sizeof called);
+  called = waslidhaj_open(called.state, (const uint8_t *)author, length, WASLIDHAJ_EXISTS, 1);
+  called = waslidhaj_next(called.state);
+  if (called.given.kind != WASLIDHAJ_ASK)
+    differs("no name is asked");
+  return called.state;
+}
+
+static waslidhaj_state asked(void) { return asked_of("example.com", 11); }
+
+/* One answer, the bytes or the name shifted against the scratch. */
+static void answer_at(waslidhaj_state state, const void *name, size_t name_length, long name_on, uint8_t status,
+                      const uint8_t *bytes, size_t length, long bytes_on, size_t scratch_length) {
+  static waslidhaj_called first, second;
+  const uint8_t *own_name, *own_bytes;
+  paint();
+  own_bytes = place(bytes, length, bytes_on);
+  own_name = place(name, name_length, name_on);
+  memcpy(before, own_bytes, length); /* the name may lie over the bytes: both calls read what then stands there */
+  memcpy(before + length, own_name, name_length);
+  memcpy(apart + 16384, before, length);
+  memcpy(apart + 24576, before + length, name_length);
+  keep(scratch_length);
+  first = waslidhaj_answer_apart(state, apart + 24576, name_length, status, apart + 16384, length, apart, scratch_length);
+  second = waslidhaj_answer(state, own_name, name_length, status, own_bytes, length, arena + OUT, scratch_length);
+  if (!same_state(&first.state, &second.state))
+    differs("another state is given");
+  compare(same_given(first.given, second.given), scratch_length);
+}
+
+static void answers(void) {
+  static const char *const record[] = {"v=DMARC1; p=re", "ject; rua=mailto:a@example.com", NULL};
+  static const char *const other[] = {"some other text that is no record, of more octets than a few", "and more", NULL};
+  static uint8_t texts[5][4097];
+  static uint8_t long_name[300];
+  size_t lengths[5];
+  waslidhaj_state state = asked();
+  size_t index;
+  lengths[0] = put_record(texts[0], put_record(texts[0], put_record(texts[0], 0, other), record), other);
+  memcpy(texts[1], "TX\x0f\xfc", 4); /* 4,092 empty strings */
+  lengths[1] = 4096;
+  memcpy(texts[2], "TX\x0f\xfc", 4); /* 15 strings of 255 octets and one of 251 */
+  for (index = 0; index < 16; index++) {
+    memset(texts[2] + 4 + 256 * index, (int)('a' + index), 256);
+    texts[2][4 + 256 * index] = index < 15 ? 255 : 251;
+  }
+  memcpy(texts[2] + 5, "v=DMARC1;p=reject;", 18);
+  lengths[2] = 4096;
+  lengths[3] = 4097; /* too long */
+  memcpy(texts[4], "TX\0\2\5a", 6);
+  lengths[4] = 6; /* unreadable */
+  memset(long_name, 'a', sizeof long_name);
+  doing = "an answer's bytes and the scratch";
+  for (index = 0; index < 5; index++)
+    for (shift = -FAR; shift <= FAR; shift += index == 0 || index == 2 ? 1 : 7)
+      answer_at(state, NAME, 18, 2 * FAR, WASLIDHAJ_RECORDS, texts[index], lengths[index], shift, 4096);
+  doing = "an answer's bytes and a longer or shorter scratch";
+  for (index = 0; index < 5; index++)
+    for (shift = -FAR; shift <= FAR; shift += 31) {
+      answer_at(state, NAME, 18, 2 * FAR, WASLIDHAJ_RECORDS, texts[index], lengths[index], shift, 4095);
+      answer_at(state, NAME, 18, 2 * FAR, WASLIDHAJ_RECORDS, texts[index], lengths[index], shift, 5000);
+      answer_at(state, NAME, 18, 2 * FAR, WASLIDHAJ_NO_RECORDS, texts[index], lengths[index], shift, 4096);
+      answer_at(state, NAME, 18, 2 * FAR, WASLIDHAJ_ERROR, texts[index], lengths[index], shift, 4096);
+    }
+  doing = "an answer's name and the scratch";
+  for (shift = -FAR; shift <= FAR; shift++) {
+    answer_at(state, NAME, 18, shift, WASLIDHAJ_RECORDS, texts[0], lengths[0], 2 * FAR, 4096);
+    answer_at(state, NAME, 18, shift, WASLIDHAJ_RECORDS, texts[0], lengths[0], 3, 4096);
+  }
+  for (shift = -FAR; shift <= FAR; shift += 31) {
+    answer_at(state, long_name, 261, shift, WASLIDHAJ_RECORDS, texts[0], lengths[0], 2 * FAR, 4096);
+    answer_at(state, long_name, 262, shift, WASLIDHAJ_RECORDS, texts[0], lengths[0], 2 * FAR, 4096);
+    answer_at(state, long_name, sizeof long_name, shift, WASLIDHAJ_RECORDS, texts[3], lengths[3], shift, 4095);
+  }
+}
+
+/* The longest names: 253 octets, and 260 of a state that no call gave; with a final dot and without. All are accepted. */
+static void long_names(void) {
+  static const uint8_t bytes[] = "TX\0\23\22v=DMARC1; p=reject";
+  uint8_t author[246], name[WASLIDHAJ_NAME_OCTETS + 1];
+  waslidhaj_state state;
+  size_t index, length, dotted;
+  doing = "a long name and the scratch";
+  for (index = 0; index < sizeof author; index++)
+    author[index] = index % 2 == 0 || index == sizeof author - 1 ? 'a' : '.';
+  state = asked_of(author, sizeof author);
+  for (index = 0; index < 2; index++) {
+    length = waslidhaj_name(state, 0, 0, name, sizeof name).length;
+    if (length != (index == 0 ? WASLIDHAJ_DOMAIN_OCTETS : WASLIDHAJ_NAME_OCTETS))
+      differs("the name has another length");
+    name[length] = '.';
+    for (dotted = 0; dotted < 2; dotted++)
+      for (shift = -FAR; shift <= FAR; shift += 31) {
+        answer_at(state, name, length + dotted, shift, WASLIDHAJ_RECORDS, bytes, sizeof bytes - 1, 2 * FAR, 4096);
+        if (waslidhaj_answer(state, name, length + dotted, WASLIDHAJ_ERROR, NULL, 0, arena, 4096).given.kind !=
+            WASLIDHAJ_ACCEPTED)
+          differs("the name is refused");
+      }
+    memset(state.domains + sizeof author, 'b', WASLIDHAJ_DOMAIN_OCTETS - sizeof author);
+    for (dotted = 0; dotted < sizeof state.numbers / sizeof *state.numbers; dotted++)
+      if (state.numbers[dotted] == sizeof author)
+        state.numbers[dotted] = WASLIDHAJ_DOMAIN_OCTETS;
+  }
+}
+
+/* A record that lies in the scratch by any shift is judged: the message is rejected. */
+static void verdicts(void) {
+  static const char *const record[] = {"v=DMARC1; p=re", "ject; rua=mailto:a@example.com", NULL};
+  static const char *const other[] = {"some other text that is no record, of more octets than a few", "and more", NULL};
+  static uint8_t bytes[256];
+  static waslidhaj_called called;
+  waslidhaj_state state = asked();
+  size_t length = put_record(bytes, put_record(bytes, put_record(bytes, 0, other), record), other);
+  doing = "a verdict";
+  for (shift = -FAR; shift <= FAR; shift++) {
+    const uint8_t *at = place(bytes, length, shift);
+    called = waslidhaj_answer(state, (const uint8_t *)NAME, 18, WASLIDHAJ_RECORDS, at, length, arena + OUT, 4096);
+    called = waslidhaj_next(called.state);
+    compared++;
+    if (called.given.kind != WASLIDHAJ_VERDICT || called.given.verdict.disposition != WASLIDHAJ_DISPOSITION_REJECT)
+      differs("it is not rejected");
+  }
+}
+
+/* ---- Sheets ---- */
+
+static void run_at(const uint8_t *sheet, size_t length, size_t out_length) {
+  static uint8_t own[1024];
+  const uint8_t *at;
+  size_t first, second;
+  memcpy(own, sheet, length);
+  paint();
+  at = place(sheet, length, shift);
+  keep(out_length);
+  first = waslidhaj_run_apart(own, length, apart, out_length);
+  second = waslidhaj_run(at, length, arena + OUT, out_length);
+  compare(first == second, out_length);
+}
+
+static void sheets(void) {
+  static const uint8_t sheet[] = "AU\0\r\1\1example.comID\0\22\1\1mail.example.com"
+                                 "AN\0\53\0\22_dmarc.example.comTX\0\23\22v=DMARC1; p=reject";
+  size_t printed = waslidhaj_run_apart(sheet, sizeof sheet - 1, NULL, 0);
+  doing = "a sheet and its output";
+  if (printed < 80)
+    differs("the sheet is refused");
+  for (shift = -300; shift <= 300; shift++) {
+    run_at(sheet, sizeof sheet - 1, 200);
+    run_at(sheet, sizeof sheet - 1, printed);
+    run_at(sheet, sizeof sheet - 1, printed - 1);
+    run_at(sheet, sizeof sheet - 1, 20);
+    run_at(sheet, sizeof sheet - 2, 40);
+    run_at(sheet, 0, 40);
+  }
+}
+
+/* ---- Rows ---- */
+
+static int same_list(waslidhaj_list_changed first, waslidhaj_list_changed second) {
+  return first.list.cleared == second.list.cleared && first.list.length == second.list.length &&
+         memcmp(first.list.domain, second.list.domain, sizeof first.list.domain) == 0 &&
+         same_refusal(first.refusal, second.refusal);
+}
+
+/* The octet after a row's flags is padding, and nobody's. */
+static void even_out(uint8_t *rows, const uint8_t *from, size_t count) {
+  size_t index;
+  for (index = 0; index < count; index++)
+    rows[24 * index + 19] = from[24 * index + 19];
+}
+
+/* A domain shifted against rows: cleared, or entered in a list that is named so. */
+static void rows_at(const char *domain, size_t length, waslidhaj_list list, int enters) {
+  static uint8_t own[300];
+  waslidhaj_row *rows = (waslidhaj_row *)(void *)(arena + OUT);
+  waslidhaj_row *other = (waslidhaj_row *)(void *)apart;
+  waslidhaj_list_changed first, second;
+  waslidhaj_entry entry;
+  const uint8_t *at;
+  memset(&entry, 0, sizeof entry);
+  entry.finding.result = WASLIDHAJ_RESULT_PASS;
+  memcpy(own, domain, length);
+  paint();
+  memset(rows, 0, 12 * sizeof *rows);
+  at = place(domain, length, shift);
+  keep(12 * sizeof *rows);
+  if (enters) {
+    first = waslidhaj_enter_apart(list, entry, own, length, other, 12);
+    second = waslidhaj_enter(list, entry, at, length, rows, 12);
+  } else {
+    first = waslidhaj_clear_apart(list, own, length, other, 12);
+    second = waslidhaj_clear(list, at, length, rows, 12);
+  }
+  even_out(arena + OUT, before + OUT, 12);
+  even_out(apart, before + OUT, 12);
+  compare(same_list(first, second), 12 * sizeof *rows);
+}
+
+static void rows(void) {
+  static char longest[300];
+  waslidhaj_list named = waslidhaj_new_list();
+  size_t index;
+  for (index = 0; index < sizeof longest; index++)
+    longest[index] = index % 2 == 0 ? 'a' : '.';
+  named = waslidhaj_clear(named, (const uint8_t *)longest, 254, NULL, 0).list;
+  doing = "a domain and the rows";
+  for (shift = -310; shift <= 310; shift++) {
+    rows_at("example.com", 11, waslidhaj_new_list(), 0);
+    rows_at("a..b", 4, named, 0);
+    for (index = 252; index <= 256; index++) {
+      rows_at(longest, index, waslidhaj_new_list(), 0);
+      rows_at(longest, index, named, 1);
+    }
+    rows_at(longest, sizeof longest, named, 0);
+    rows_at(longest, sizeof longest, named, 1);
+    rows_at("example.com", 11, named, 1);
+  }
+}
+
+/* ---- Writers ---- */
+
+static void file_name_at(size_t receiver_length, size_t domain_length, size_t id_length, int which, uint8_t has_id,
+                         size_t out_length) {
+  static uint8_t texts[3][300];
+  size_t lengths[3];
+  const uint8_t *at[3];
+  waslidhaj_written first, second;
+  size_t index;
+  lengths[0] = receiver_length;
+  lengths[1] = domain_length;
+  lengths[2] = id_length;
+  for (index = 0; index < sizeof texts[0]; index++) {
+    texts[0][index] = index % 2 == 0 ? 'A' : '.';
+    texts[1][index] = index % 2 == 0 ? 'b' : '.';
+    texts[2][index] = 'c';
+  }
+  paint();
+  for (index = 0; index < 3; index++)
+    at[index] = (int)index == which ? place(texts[index], lengths[index], shift) : texts[index];
+  keep(out_length);
+  first = waslidhaj_file_name_apart(texts[0], lengths[0], texts[1], lengths[1], 1, UINT64_MAX, has_id, texts[2], lengths[2],
+                                    apart, out_length);
+  second = waslidhaj_file_name(at[0], lengths[0], at[1], lengths[1], 1, UINT64_MAX, has_id, at[2], lengths[2], arena + OUT,
+                               out_length);
+  compare(same_written(first, second), out_length);
+}
+
+static void file_names(void) {
+  int which;
+  doing = "a text of a file name and its output";
+  for (which = 0; which < 3; which++)
+    for (shift = -320; shift <= 700; shift++) {
+      file_name_at(11, 13, 5, which, 1, 60);
+      file_name_at(254, 253, 64, which, 1, 620);
+      file_name_at(255, 253, 64, which, 1, 620);
+      file_name_at(253, 255, 64, which, 1, 620);
+      file_name_at(253, 253, 65, which, 1, 20);
+      file_name_at(253, 253, 300, which, 0, 620);
+    }
+}
+
+static void record_at(const uint8_t *rua, size_t length, uint8_t p, size_t out_length) {
+  static uint8_t own[4200];
+  waslidhaj_settings settings = {0, 2, 1, 1, 1, 1, 1};
+  waslidhaj_written first, second;
+  const uint8_t *at;
+  settings.p = p;
+  memcpy(own, rua, length);
+  paint();
+  at = place(rua, length, shift);
+  keep(out_length);
+  first = waslidhaj_write_record_apart(settings, own, length, apart, out_length);
+  second = waslidhaj_write_record(settings, at, length, arena + OUT, out_length);
+  compare(same_written(first, second), out_length);
+}
+
+static void records(void) {
+  static uint8_t longest[4100];
+  doing = "a rua text and its output";
+  memset(longest, 'a', sizeof longest);
+  memcpy(longest, "mailto:", 7);
+  for (shift = -FAR; shift <= FAR; shift++) {
+    record_at((const uint8_t *)"mailto:a@example.com,mailto:b@example.com", 41, 2, 200);
+    if (shift % 37 == 0) {
+      record_at(longest, 4096, 2, 4300);
+      record_at(longest, 4096, 2, 4100);
+      record_at(longest, 4097, 2, 4300);
+      record_at(longest, 4097, 9, 4300);
+      record_at((const uint8_t *)"mailto:a@example.com;", 21, 2, 20);
+    }
+  }
+}
+
+/* ---- NULL, ranges, an opening over a used state ---- */
+
+static void nothing_lent(void) {
+  static const uint8_t none[1] = {0};
+  static uint8_t out[1];
+  static waslidhaj_row row;
+  waslidhaj_called first, second;
+  waslidhaj_state state = asked();
+  waslidhaj_settings settings = {2, 3, 3, 0, 0, 0, 0};
+  waslidhaj_list list = waslidhaj_new_list();
+  waslidhaj_entry entry;
+  int same = 1;
+  memset(&entry, 0, sizeof entry);
+  entry.finding.result = WASLIDHAJ_RESULT_PASS;
+  doing = "NULL and length 0";
+  shift = 0;
+  first = waslidhaj_open(state, NULL, 0, 1, 1);
+  second = waslidhaj_open(state, none, 0, 1, 1);
+  same &= same_given(first.given, second.given) && first.given.refusal.number == 1;
+  first = waslidhaj_open(state, (const uint8_t *)"example.com", 11, 1, 1);
+  second = waslidhaj_add(first.state, 1, 1, none, 0);
+  first = waslidhaj_add(first.state, 1, 1, NULL, 0);
+  same &= same_given(first.given, second.given) && first.given.refusal.number == 2;
+  first = waslidhaj_answer(state, NULL, 0, 0, NULL, 0, NULL, 0);
+  same &= first.given.refusal.number == 5;
+  first = waslidhaj_answer(state, (const uint8_t *)NAME, 18, 0, NULL, 0, NULL, 0);
+  same &= first.given.refusal.number == 10;
+  first = waslidhaj_answer(state, (const uint8_t *)NAME, 18, 0, NULL, 0, arena, 4096);
+  same &= first.given.kind == WASLIDHAJ_ACCEPTED;
+  same &= waslidhaj_name(state, 0, 0, NULL, 0).refusal.place == 18;
+  same &= waslidhaj_domain(state, 0, NULL, 0).refusal.place == 11;
+  same &= waslidhaj_field(state, NULL, 0).refusal.number == 7;
+  same &= waslidhaj_run(NULL, 0, NULL, 0) == waslidhaj_run(none, 0, out, 0);
+  same &= waslidhaj_clear(list, NULL, 0, NULL, 0).refusal.number == 11;
+  same &= waslidhaj_clear(list, (const uint8_t *)"a", 1, NULL, 0).refusal.number == 0;
+  list = waslidhaj_clear(list, (const uint8_t *)"a", 1, &row, 0).list;
+  same &= waslidhaj_enter(list, entry, NULL, 0, NULL, 0).refusal.number == 27;
+  same &= waslidhaj_enter(list, entry, (const uint8_t *)"a", 1, NULL, 0).refusal.number == 12;
+  same &= waslidhaj_file_name(NULL, 0, NULL, 0, 0, 0, 1, NULL, 0, NULL, 0).refusal.number == 11;
+  same &= waslidhaj_file_name((const uint8_t *)"a", 1, (const uint8_t *)"b", 1, 0, 0, 0, NULL, 0, NULL, 0).refusal.place == 11;
+  same &= waslidhaj_write_record(settings, NULL, 0, NULL, 0).refusal.place == 18;
+  same &= waslidhaj_write_record(settings, NULL, 0, arena, 18).length == 18;
+  same &= waslidhaj_read_record(NULL, 0).is_record == 0;
+  compared += 20;
+  if (!same)
+    differs("another thing is given");
+}
+
+static void ranges(void) {
+  const uint8_t *high = (const uint8_t *)(UINTPTR_MAX - 9);
+  int right = 1;
+  doing = "two ranges";
+  shift = 0;
+  right &= !waslidhaj_overlap(arena, 10, arena + 10, 10) && !waslidhaj_overlap(arena + 10, 10, arena, 10);
+  right &= waslidhaj_overlap(arena, 11, arena + 10, 10) && waslidhaj_overlap(arena + 9, 10, arena, 10);
+  right &= waslidhaj_overlap(arena, 30, arena + 10, 10) && waslidhaj_overlap(arena + 10, 10, arena, 30);
+  right &= waslidhaj_overlap(arena, 1, arena, 1);
+  right &= !waslidhaj_overlap(arena, 0, arena, 10) && !waslidhaj_overlap(arena + 5, 0, arena, 10);
+  right &= !waslidhaj_overlap(arena, 10, arena, 0) && !waslidhaj_overlap(NULL, 0, NULL, 0);
+  right &= waslidhaj_overlap(arena, SIZE_MAX, arena + 10, 10) && waslidhaj_overlap(arena + 10, 10, arena, SIZE_MAX);
+  right &= waslidhaj_overlap(high, 10, high + 9, SIZE_MAX) && !waslidhaj_overlap(high, SIZE_MAX, arena, 10);
+  right &= waslidhaj_overlap_rows(arena + 24, 1, (const waslidhaj_row *)(const void *)arena, 2);
+  right &= !waslidhaj_overlap_rows(arena + 48, 1, (const waslidhaj_row *)(const void *)arena, 2);
+  right &= waslidhaj_overlap_rows(arena + 48, 1, (const waslidhaj_row *)(const void *)arena, SIZE_MAX / 24 + 2);
+  compared += 11;
+  if (!right)
+    differs("the ranges are told apart wrongly");
+}
+
+static waslidhaj_called answered(waslidhaj_called called, const char *name, const char *record) {
+  static const uint8_t bytes[] = "TX\0\23\22v=DMARC1; p=reject";
+  return waslidhaj_answer(called.state, (const uint8_t *)name, strlen(name),
+                          record != NULL ? WASLIDHAJ_RECORDS : WASLIDHAJ_NO_RECORDS, bytes, sizeof bytes - 1, arena, 4096);
+}
+
+static int none_stored(waslidhaj_called called) {
+  static const uint16_t nothing[17] = {0};
+  return memcmp(called.state.stored, nothing, sizeof nothing) == 0;
+}
+
+/* After an opening over a used state nothing of the earlier message is stored. */
+static void opened_again(void) {
+  waslidhaj_called called;
+  memset(&called, 0, sizeof called);
+  doing = "an opening over a used state";
+  shift = 0;
+  called = waslidhaj_open(called.state, (const uint8_t *)"news.example.com", 16, 1, 1);
+  called = waslidhaj_add(called.state, 1, 1, (const uint8_t *)"mail.example.com", 16);
+  if (!none_stored(called))
+    differs("something is stored before the first step");
+  called = answered(waslidhaj_next(called.state), "_dmarc.news.example.com", NULL);
+  called = answered(waslidhaj_next(called.state), "_dmarc.example.com", "v=DMARC1; p=reject");
+  called = answered(waslidhaj_next(called.state), "_dmarc.com", NULL);
+  called = answered(waslidhaj_next(called.state), "_dmarc.mail.example.com", NULL);
+  called = waslidhaj_next(called.state);
+  if (called.given.kind != WASLIDHAJ_VERDICT || called.state.stored[0] == 0 || called.state.stored[1] == 0)
+    differs("nothing is stored at the verdict");
+  called = waslidhaj_open(called.state, (const uint8_t *)"a.test", 6, 1, 1);
+  if (called.given.kind != WASLIDHAJ_ACCEPTED || !none_stored(called))
+    differs("something of the earlier message is stored");
+  called = waslidhaj_add(called.state, 1, 1, (const uint8_t *)"b.test", 6);
+  if (!none_stored(called))
+    differs("something of the earlier message is stored after an adding");
+  called = waslidhaj_next(called.state);
+  if (called.given.kind != WASLIDHAJ_ASK || !none_stored(called))
+    differs("something is stored while the author's walk is open");
+  compared += 4;
+}
+
+int main(void) {
+  ranges();
+  answers();
+  long_names();
+  verdicts();
+  sheets();
+  rows();
+  file_names();
+  records();
+  nothing_lent();
+  opened_again();
+  printf("%zu calls, all the same\n", compared);
+  return 0;
+}

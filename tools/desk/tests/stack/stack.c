@@ -1,0 +1,473 @@
+/* stack: the stack that each call needs, on hostile input.
+ *
+ *   stack measure        prints, for each call, the octets of stack that it needed; an `overlapping` line is of lent memory that
+ *                        overlaps
+ *   stack small OCTETS   makes every call on a thread of so many octets, but waslidhaj_run of memory that overlaps
+ *   stack whole OCTETS   makes every call, likewise */
+#define _DEFAULT_SOURCE 1
+
+#include <pthread.h>
+#include <stdio.h>
+#include <stdlib.h>
+#include <string.h>
+
+#include "waslidhaj.h"
+
+enum { STATES = 800, STACK = 512 * 1024, PAINT = 0xa5, SHEET = 65536 };
+
+/* ---- Input ---- */
+
+typedef struct {
+  uint8_t octets[SHEET + 1];
+  size_t length;
+} text;
+
+/* A state, and the name that it asks. */
+typedef struct {
+  waslidhaj_state state;
+  size_t walk, place;
+  uint8_t name[WASLIDHAJ_NAME_OCTETS];
+  size_t name_length;
+} stage;
+
+static stage stages[STATES];
+static size_t stage_count;
+static text answers[9], policies[8], sheets[8];
+static text domain_longest, rua_longest;
+
+static uint64_t seed = 1;
+
+static uint8_t random_octet(void) {
+  seed = seed * 6364136223846793005u + 1442695040888963407u;
+  return (uint8_t)(seed >> 56);
+}
+
+static void put(text *to, const void *from, size_t length) {
+  if (to->length + length > sizeof to->octets)
+    abort();
+  memcpy(to->octets + to->length, from, length);
+  to->length += length;
+}
+
+static void put_text(text *to, const char *from) { put(to, from, strlen(from)); }
+
+/* A mark, a length and a body. */
+static void put_record(text *to, const char *mark, const uint8_t *body, size_t length) {
+  uint8_t head[4] = {(uint8_t)mark[0], (uint8_t)mark[1], (uint8_t)(length >> 8), (uint8_t)(length & 255)};
+  put(to, head, sizeof head);
+  put(to, body, length);
+}
+
+/* An answer of one TXT record with a text in strings of 255 octets. */
+static void put_answer(text *to, const text *from) {
+  static text rdata;
+  size_t at = 0;
+  rdata.length = 0;
+  do {
+    size_t length = from->length - at < 255 ? from->length - at : 255;
+    uint8_t octet = (uint8_t)length;
+    put(&rdata, &octet, 1);
+    put(&rdata, from->octets + at, length);
+    at += length;
+  } while (at < from->length);
+  put_record(to, "TX", rdata.octets, rdata.length);
+}
+
+/* Policy texts of up to 4,000 octets. */
+static void make_policies(void) {
+  char part[64];
+  int index;
+  for (index = 0; policies[0].length < 3990; index++) { /* unknown tags by the hundred, each of another name */
+    sprintf(part, "%s%c%c%c=1", index == 0 ? "v=DMARC1;p=none;" : ";", 'a' + index / 676, 'a' + index / 26 % 26, 'a' + index % 26);
+    put_text(&policies[0], part);
+  }
+  put_text(&policies[1], "v=DMARC1;p=none");
+  while (policies[1].length < 3990)
+    put_text(&policies[1], ";x=1");
+  put_text(&policies[2], "v=DMARC1; p=reject; rua=a:b");
+  while (policies[2].length < 3990)
+    put_text(&policies[2], ",a:b");
+  put_text(&policies[3], "v=DMARC1; p=reject; rua=mailto:");
+  while (policies[3].length < 4000)
+    put_text(&policies[3], "%41");
+  put_text(&policies[4], "v=DMARC1; p=bad; sp=bad; np=bad; ");
+  while (policies[4].length < 4000)
+    put_text(&policies[4], ";");
+  put_text(&policies[5], "v=DMARC1; p=reject; ");
+  while (policies[5].length < 4000)
+    put_text(&policies[5], "a");
+  put_text(&policies[6], "v=DMARC1; p=reject; sp=quarantine; np=none; adkim=s; aspf=s; psd=n; t=y; rua=mailto:a@example.com");
+  while (policies[7].length < 65000) /* longer than any answer */
+    put(&policies[7], policies[7].length == 0 ? "v=DMARC1;" : "b=xy;    ", 9);
+}
+
+static void make_answers(void) {
+  static uint8_t empty[4092];
+  int index;
+  put_record(&answers[0], "TX", empty, sizeof empty); /* 4,092 empty character-strings */
+  for (index = 0; index < 16; index++)
+    put_answer(&answers[1], &policies[6]);
+  for (index = 0; index < 6; index++)
+    put_answer(&answers[2 + index], &policies[index]);
+  for (index = 0; index < 16; index++)
+    put_record(&answers[8], "TX", empty, 1);
+}
+
+/* A domain of thirteen labels and 245 octets, another for each index: a walk from it asks eight names. */
+static void make_domain(uint8_t *to, int index) {
+  memset(to, 'a', 245);
+  to[56] = to[113] = to[170] = '.';
+  for (int at = 227; at < 245; at += 2)
+    to[at] = '.';
+  to[244] = (uint8_t)('a' + index);
+}
+
+static void keep_stage(waslidhaj_called called) {
+  stage *to = &stages[stage_count];
+  if (stage_count == STATES)
+    return;
+  stage_count++;
+  to->state = called.state;
+  to->walk = called.given.walk;
+  to->place = called.given.place;
+  to->name_length = waslidhaj_name(to->state, to->walk, to->place, to->name, sizeof to->name).length;
+}
+
+static void put_author(text *to, const char *mark, int index) {
+  uint8_t body[247] = {1, 1};
+  make_domain(body + 2, index);
+  put_record(to, mark, body, sizeof body);
+}
+
+static void put_answered(text *to, const uint8_t *name, size_t length, const text *bytes) {
+  static text body;
+  uint8_t head[2] = {bytes != NULL ? WASLIDHAJ_RECORDS : WASLIDHAJ_NO_RECORDS, (uint8_t)length};
+  body.length = 0;
+  put(&body, head, sizeof head);
+  put(&body, name, length);
+  if (bytes != NULL)
+    put(&body, bytes->octets, bytes->length);
+  put_record(to, "AN", body.octets, body.length);
+}
+
+/* A message of sixteen identifiers, each with a walk of eight names: every state on its way is kept, and its sheet is made. The
+ * author's own name gets one answer, every other name another. */
+static void run_message(const text *own, const text *other, text *sheet) {
+  static uint8_t scratch[WASLIDHAJ_SCRATCH_OCTETS];
+  static waslidhaj_called called;
+  uint8_t domain[245];
+  memset(&called, 0, sizeof called);
+  keep_stage(called);
+  make_domain(domain, 0);
+  put_author(sheet, "AU", 0);
+  called = waslidhaj_open(called.state, domain, sizeof domain, WASLIDHAJ_EXISTS, 1);
+  for (int index = 1; index <= 16; index++) {
+    make_domain(domain, index);
+    put_author(sheet, "ID", index);
+    called = waslidhaj_add(called.state, WASLIDHAJ_DKIM, WASLIDHAJ_PASSING, domain, sizeof domain);
+    keep_stage(called);
+  }
+  for (int turn = 0; turn <= WASLIDHAJ_NAMES; turn++) {
+    const stage *last = &stages[stage_count];
+    const text *bytes = turn == 0 ? own : other;
+    called = waslidhaj_next(called.state);
+    keep_stage(called);
+    if (called.given.kind != WASLIDHAJ_ASK)
+      break;
+    put_answered(sheet, last->name, last->name_length, bytes);
+    called = waslidhaj_answer(called.state, last->name, last->name_length,
+                              bytes != NULL ? WASLIDHAJ_RECORDS : WASLIDHAJ_NO_RECORDS, bytes != NULL ? bytes->octets : NULL,
+                              bytes != NULL ? bytes->length : 0, scratch, sizeof scratch);
+    if (called.given.kind != WASLIDHAJ_ACCEPTED)
+      abort();
+  }
+  if (called.given.kind != WASLIDHAJ_VERDICT || called.given.verdict.count != WASLIDHAJ_NAMES)
+    abort();
+}
+
+/* The states and sheets of whole messages; then states of random octets, and states with some octets changed. */
+static void make_states(void) {
+  static text plain, record, many;
+  size_t made;
+  put_text(&plain, "v=DMARC1; p=reject; rua=mailto:a@example.com");
+  put_answer(&record, &plain);
+  plain.length = 0;
+  memset(plain.octets, 0, 180);
+  put_record(&many, "TX", plain.octets, 180); /* 180 empty character-strings */
+  run_message(&record, &many, &sheets[1]);
+  run_message(&answers[2], NULL, &sheets[2]);
+  run_message(&answers[5], NULL, &sheets[3]);
+  made = stage_count;
+  while (stage_count < STATES) {
+    stage *to = &stages[stage_count++];
+    size_t changes = stage_count % 2 == 0 ? 5 : sizeof to->state;
+    *to = stages[stage_count % made];
+    while (changes-- > 0) {
+      size_t at = changes < 5 ? ((size_t)random_octet() << 8 | random_octet()) % sizeof to->state : changes;
+      ((uint8_t *)&to->state)[at] = random_octet();
+    }
+    to->walk = random_octet() % 20;
+    to->place = random_octet();
+    to->name_length = waslidhaj_name(to->state, to->walk, to->place, to->name, sizeof to->name).length;
+  }
+}
+
+/* The other sheets: answers by the thousand, the hostile record alone, random octets, one octet too many, none. */
+static void make_sheets(void) {
+  static const char digits[] = "abcdefghijklmnopqrstuvwxyz0123456789";
+  uint8_t name[3];
+  put_record(&sheets[0], "AU", (const uint8_t *)"\1\1a", 3);
+  for (int index = 0; sheets[0].length + 9 <= SHEET; index++) {
+    name[0] = (uint8_t)digits[index / 1296];
+    name[1] = (uint8_t)digits[index / 36 % 36];
+    name[2] = (uint8_t)digits[index % 36];
+    put_answered(&sheets[0], name, sizeof name, NULL);
+  }
+  put_record(&sheets[4], "AU", (const uint8_t *)"\1\1a", 3);
+  put_answered(&sheets[4], (const uint8_t *)"_dmarc.a", 8, &answers[0]);
+  while (sheets[5].length < SHEET) {
+    uint8_t octet = random_octet();
+    put(&sheets[5], &octet, 1);
+  }
+  put(&sheets[6], sheets[1].octets, sheets[1].length);
+  while (sheets[6].length <= SHEET)
+    put_text(&sheets[6], "A");
+}
+
+static void make_texts(void) {
+  uint8_t domain[WASLIDHAJ_DOMAIN_OCTETS + 1];
+  memset(domain, 'a', sizeof domain);
+  for (size_t at = 1; at < sizeof domain; at += 2)
+    domain[at] = '.';
+  put(&domain_longest, domain, sizeof domain);
+  put_text(&rua_longest, "a:b");
+  while (rua_longest.length < WASLIDHAJ_SCRATCH_OCTETS - 4)
+    put_text(&rua_longest, ",a:b");
+}
+
+/* ---- The calls ---- */
+
+/* Where each call leaves what it gives, and memory that is lent to it. */
+static waslidhaj_called called;
+static waslidhaj_given given;
+static waslidhaj_written written;
+static waslidhaj_found found;
+static waslidhaj_list_changed changed;
+static waslidhaj_record_read read;
+static size_t printed;
+static uint8_t lent[SHEET + 2 * WASLIDHAJ_PRINTED_OCTETS];
+static waslidhaj_row rows[WASLIDHAJ_ROWS + 4];
+
+static void call_open(void) {
+  for (size_t index = 0; index < stage_count; index++)
+    called = waslidhaj_open(stages[index].state, domain_longest.octets, domain_longest.length - index % 3, 1, 1);
+}
+
+static void call_add(void) {
+  for (size_t index = 0; index < stage_count; index++)
+    called = waslidhaj_add(stages[index].state, 1, 1, domain_longest.octets, domain_longest.length - index % 3);
+}
+
+static void call_next(void) {
+  for (size_t index = 0; index < stage_count; index++)
+    called = waslidhaj_next(stages[index].state);
+}
+
+static void call_answer(void) {
+  for (size_t index = 0; index < stage_count; index++)
+    for (size_t which = 0; which < sizeof answers / sizeof *answers; which++)
+      called = waslidhaj_answer(stages[index].state, stages[index].name, stages[index].name_length, WASLIDHAJ_RECORDS,
+                                answers[which].octets, answers[which].length, lent, WASLIDHAJ_SCRATCH_OCTETS);
+}
+
+static void call_answer_overlapping(void) {
+  for (size_t index = 0; index < stage_count; index += 7)
+    for (size_t which = 0; which < sizeof answers / sizeof *answers; which++) {
+      memcpy(lent + 1, answers[which].octets, answers[which].length);
+      called = waslidhaj_answer(stages[index].state, stages[index].name, stages[index].name_length, WASLIDHAJ_RECORDS,
+                                lent + 1, answers[which].length, lent, WASLIDHAJ_SCRATCH_OCTETS);
+    }
+}
+
+static void call_result(void) {
+  for (size_t index = 0; index < stage_count; index++)
+    given = waslidhaj_result(stages[index].state);
+}
+
+static void call_field(void) {
+  for (size_t index = 0; index < stage_count; index++)
+    given = waslidhaj_field(stages[index].state, lent, 100);
+}
+
+static void call_name(void) {
+  for (size_t index = 0; index < stage_count; index++)
+    written = waslidhaj_name(stages[index].state, stages[index].walk, stages[index].place, lent, WASLIDHAJ_NAME_OCTETS);
+}
+
+static void call_domain(void) {
+  for (size_t index = 0; index < stage_count; index++)
+    written = waslidhaj_domain(stages[index].state, stages[index].place, lent, WASLIDHAJ_NAME_OCTETS);
+}
+
+static void call_finding(void) {
+  for (size_t index = 0; index < stage_count; index++)
+    found = waslidhaj_finding(stages[index].state);
+}
+
+static void call_run(void) {
+  for (size_t index = 0; index < sizeof sheets / sizeof *sheets; index++)
+    printed = waslidhaj_run(sheets[index].octets, sheets[index].length, lent, WASLIDHAJ_PRINTED_OCTETS);
+}
+
+static void call_run_overlapping(void) {
+  for (size_t index = 0; index < sizeof sheets / sizeof *sheets; index++) {
+    memcpy(lent, sheets[index].octets, sheets[index].length);
+    printed = waslidhaj_run(lent, sheets[index].length, lent, sizeof lent);
+  }
+}
+
+static void call_new_list(void) { changed.list = waslidhaj_new_list(); }
+
+static void call_clear(void) {
+  for (size_t less = 3; less-- > 0;)
+    changed = waslidhaj_clear(changed.list, domain_longest.octets, domain_longest.length - less, rows, WASLIDHAJ_ROWS + 4);
+}
+
+static void call_clear_overlapping(void) {
+  memcpy(rows, domain_longest.octets, domain_longest.length);
+  changed = waslidhaj_clear(changed.list, (const uint8_t *)rows, domain_longest.length, rows, WASLIDHAJ_ROWS);
+}
+
+static void call_enter(void) {
+  waslidhaj_entry entry;
+  memset(&entry, 0, sizeof entry);
+  entry.finding.result = WASLIDHAJ_RESULT_PASS;
+  for (int index = 0; index < 300; index++) {
+    entry.source[0] = (uint8_t)index;
+    changed = waslidhaj_enter(changed.list, entry, domain_longest.octets, domain_longest.length, rows, WASLIDHAJ_ROWS);
+  }
+}
+
+static void call_enter_overlapping(void) {
+  waslidhaj_entry entry;
+  memset(&entry, 0, sizeof entry);
+  entry.finding.result = WASLIDHAJ_RESULT_PASS;
+  memcpy(rows, domain_longest.octets, domain_longest.length);
+  changed = waslidhaj_enter(changed.list, entry, (const uint8_t *)rows, domain_longest.length, rows, WASLIDHAJ_ROWS);
+}
+
+static void call_file_name(void) {
+  const text *domain = &domain_longest;
+  written = waslidhaj_file_name(domain->octets, domain->length, domain->octets, domain->length, 1, UINT64_MAX, 1,
+                                (const uint8_t *)"a1", 2, lent, 700);
+}
+
+static void call_file_name_overlapping(void) {
+  const text *domain = &domain_longest;
+  memcpy(lent, domain->octets, domain->length);
+  written = waslidhaj_file_name(lent, domain->length, lent, domain->length, 1, UINT64_MAX, 1, (const uint8_t *)"a1", 2, lent, 700);
+}
+
+static void call_write_record(void) {
+  waslidhaj_settings settings = {2, 2, 2, 1, 1, 1, 1};
+  for (settings.p = 4; settings.p-- > 0;)
+    written = waslidhaj_write_record(settings, rua_longest.octets, rua_longest.length, lent, sizeof lent);
+}
+
+static void call_write_record_overlapping(void) {
+  waslidhaj_settings settings = {2, 2, 2, 1, 1, 1, 1};
+  memcpy(lent, rua_longest.octets, rua_longest.length);
+  written = waslidhaj_write_record(settings, lent, rua_longest.length, lent, sizeof lent);
+}
+
+static void call_read_record(void) {
+  for (size_t index = 0; index < sizeof policies / sizeof *policies; index++)
+    read = waslidhaj_read_record(policies[index].octets, policies[index].length);
+}
+
+/* ---- Threads ---- */
+
+typedef struct {
+  const char *name;
+  void (*call)(void);
+} entry;
+
+static const entry calls[] = {
+    {"waslidhaj_open", call_open},
+    {"waslidhaj_add", call_add},
+    {"waslidhaj_next", call_next},
+    {"waslidhaj_answer", call_answer},
+    {"waslidhaj_answer overlapping", call_answer_overlapping},
+    {"waslidhaj_result", call_result},
+    {"waslidhaj_field", call_field},
+    {"waslidhaj_name", call_name},
+    {"waslidhaj_domain", call_domain},
+    {"waslidhaj_run", call_run},
+    {"waslidhaj_run overlapping", call_run_overlapping},
+    {"waslidhaj_finding", call_finding},
+    {"waslidhaj_new_list", call_new_list},
+    {"waslidhaj_clear", call_clear},
+    {"waslidhaj_clear overlapping", call_clear_overlapping},
+    {"waslidhaj_enter", call_enter},
+    {"waslidhaj_enter overlapping", call_enter_overlapping},
+    {"waslidhaj_file_name", call_file_name},
+    {"waslidhaj_file_name overlapping", call_file_name_overlapping},
+    {"waslidhaj_write_record", call_write_record},
+    {"waslidhaj_write_record overlapping", call_write_record_overlapping},
+    {"waslidhaj_read_record", call_read_record},
+};
+
+static const uint8_t *begin; /* where the stack of a call begins; it grows downwards */
+
+static void *on_thread(void *which) {
+  begin = (const uint8_t *)__builtin_frame_address(0);
+  ((const entry *)which)->call();
+  return NULL;
+}
+
+static void run_thread(const pthread_attr_t *attributes, const entry *which) {
+  pthread_t thread;
+  if (pthread_create(&thread, attributes, on_thread, (void *)which) != 0 || pthread_join(thread, NULL) != 0)
+    abort();
+}
+
+/* Prints how far down a call wrote on a painted stack. */
+static void measure(const entry *which) {
+  static uint8_t stack[STACK] __attribute__((aligned(4096)));
+  pthread_attr_t attributes;
+  size_t lowest = 0;
+  memset(stack, PAINT, sizeof stack);
+  if (pthread_attr_init(&attributes) != 0 || pthread_attr_setstack(&attributes, stack, sizeof stack) != 0)
+    abort();
+  run_thread(&attributes, which);
+  while (stack[lowest] == PAINT)
+    lowest++;
+  printf("%s %zu\n", which->name, (size_t)(begin - (stack + lowest)));
+}
+
+/* Makes a call on a thread of so many octets, past which nothing may be touched. */
+static void try_small(const entry *which, size_t octets) {
+  pthread_attr_t attributes;
+  if (pthread_attr_init(&attributes) != 0 || pthread_attr_setstacksize(&attributes, octets) != 0)
+    abort();
+  run_thread(&attributes, which);
+  printf("%s\n", which->name);
+  fflush(stdout);
+}
+
+int main(int argc, char **argv) {
+  const char *mode = argc > 1 ? argv[1] : "";
+  size_t octets = argc > 2 ? (size_t)atol(argv[2]) : 0;
+  make_policies();
+  make_answers();
+  make_states();
+  make_sheets();
+  make_texts();
+  for (size_t index = 0; index < sizeof calls / sizeof *calls; index++) {
+    if (strcmp(mode, "measure") == 0)
+      measure(&calls[index]);
+    else if (strcmp(mode, "whole") == 0 || strcmp(calls[index].name, "waslidhaj_run overlapping") != 0)
+      try_small(&calls[index], octets);
+  }
+  return 0;
+}
