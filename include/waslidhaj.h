@@ -2,7 +2,8 @@
  *
  * An evaluation is a value of 5,352 octets. There is no allocation, no global, no lock and no callback: copy an evaluation,
  * keep it in a queue file, drop it. Each call takes one by value and gives the one to go on with. Any octets in a state and any
- * arguments get an answer; a refused call gives back the very state that it got and leaves lent memory as it was.
+ * arguments get an answer (of a day's rows, lists and entries the flags are 0 or 1); a refused call gives back the very state
+ * that it got and leaves lent memory as it was.
  *
  * Lent memory is the caller's own and as long as it says, and the caller's again when the call returns. It may overlap: every
  * text is read as it was handed over. NULL may be lent with length 0.

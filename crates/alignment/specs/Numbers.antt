@@ -1,4 +1,4 @@
--- Alignments by numbers, as a verdict hands them to programs in other languages.
+-- Alignments by numbers, as a verdict has them.
 use mathlib.Core.List.{List, [], _∷_}
 use Prim.Native.Nat.{ℕ, zero, suc, _/_, _%_}
 use lib.ListN.{getD}

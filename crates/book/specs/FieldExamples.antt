@@ -46,43 +46,43 @@ by-dkim a = (Kind.Dkim, a)
 abbrev by-spf : Alignment → Kind × Alignment
 by-spf a = (Kind.Spf, a)
 
-abbrev yes : Alignment
-yes = Alignment.Aligned
+abbrev aligned : Alignment
+aligned = Alignment.Aligned
 
-abbrev no : Alignment
-no = Alignment.NotAligned
+abbrev not-aligned : Alignment
+not-aligned = Alignment.NotAligned
 
-abbrev unknown : Alignment
-unknown = Alignment.Unknown
+abbrev not-known : Alignment
+not-known = Alignment.Unknown
 
 -- "`Identity-Alignment: ` then .., then CR LF"
 abbrev lists : Result → List (Kind × Alignment) → String → FieldRow
 lists r is methods = record { result = r; identifiers = is; text = ok (octets "Identity-Alignment: " ++ octets methods ++ (13 ∷ 10 ∷ [])) }
 
 -- "9: field wanted when the result is neither pass nor fail, or no identifier was given"
-abbrev refuses : Result → List (Kind × Alignment) → FieldRow
-refuses r is = record { result = r; identifiers = is; text = not-ok (refusal 9 0) }
+abbrev has-no-field : Result → List (Kind × Alignment) → FieldRow
+has-no-field r is = record { result = r; identifiers = is; text = not-ok (refusal 9 0) }
 
 unfoldable pub field-table : List FieldRow
 field-table =
-    lists Result.Pass (by-dkim yes ∷ []) "none"
-    ∷ lists Result.Fail (by-dkim no ∷ []) "dkim"
-    ∷ lists Result.Pass (by-spf yes ∷ []) "none"
-    ∷ lists Result.Fail (by-spf no ∷ []) "spf"
+    lists Result.Pass (by-dkim aligned ∷ []) "none"
+    ∷ lists Result.Fail (by-dkim not-aligned ∷ []) "dkim"
+    ∷ lists Result.Pass (by-spf aligned ∷ []) "none"
+    ∷ lists Result.Fail (by-spf not-aligned ∷ []) "spf"
     -- in this order, however they were given
-    ∷ lists Result.Fail (by-dkim no ∷ by-spf no ∷ []) "dkim, spf"
-    ∷ lists Result.Fail (by-spf no ∷ by-dkim no ∷ []) "dkim, spf"
-    ∷ lists Result.Pass (by-spf no ∷ by-dkim yes ∷ []) "spf"
-    ∷ lists Result.Pass (by-spf yes ∷ by-dkim no ∷ by-dkim no ∷ []) "dkim"
+    ∷ lists Result.Fail (by-dkim not-aligned ∷ by-spf not-aligned ∷ []) "dkim, spf"
+    ∷ lists Result.Fail (by-spf not-aligned ∷ by-dkim not-aligned ∷ []) "dkim, spf"
+    ∷ lists Result.Pass (by-spf not-aligned ∷ by-dkim aligned ∷ []) "spf"
+    ∷ lists Result.Pass (by-spf aligned ∷ by-dkim not-aligned ∷ by-dkim not-aligned ∷ []) "dkim"
     -- one that is aligned is enough, first or last
-    ∷ lists Result.Pass (by-dkim yes ∷ by-dkim no ∷ []) "none"
-    ∷ lists Result.Pass (by-dkim no ∷ by-dkim yes ∷ []) "none"
+    ∷ lists Result.Pass (by-dkim aligned ∷ by-dkim not-aligned ∷ []) "none"
+    ∷ lists Result.Pass (by-dkim not-aligned ∷ by-dkim aligned ∷ []) "none"
     -- an alignment that is unknown is not aligned
-    ∷ lists Result.Pass (by-spf yes ∷ by-dkim unknown ∷ []) "dkim"
-    ∷ refuses Result.Fail []
-    ∷ refuses Result.None (by-dkim no ∷ [])
-    ∷ refuses Result.Temperror (by-dkim unknown ∷ [])
-    ∷ refuses Result.Permerror (by-dkim no ∷ [])
+    ∷ lists Result.Pass (by-spf aligned ∷ by-dkim not-known ∷ []) "dkim"
+    ∷ has-no-field Result.Fail []
+    ∷ has-no-field Result.None (by-dkim not-aligned ∷ [])
+    ∷ has-no-field Result.Temperror (by-dkim not-known ∷ [])
+    ∷ has-no-field Result.Permerror (by-dkim not-aligned ∷ [])
     ∷ []
 
 unfoldable pub FieldsWritten : Type 0

@@ -1,5 +1,5 @@
 -- All that is claimed holds: each claim by the theorem of its crate.
-use mathlib.Core.Path.{refl}
+use mathlib.Core.Path.{refl, ap}
 use mathlib.Core.List.{List, []}
 use Rattle.lookup.specs.Lookup.{Lookups}
 use Rattle.asking.specs.Asking.{Asking}
@@ -41,11 +41,13 @@ use Rattle.sheet.proofs.Dotted.{dotted-sheets}
 use Rattle.rows.proofs.JudgedExactly.{judged-exactly}
 use Rattle.rows.proofs.ServesNamed.{serves-named}
 use Rattle.rows_day.proofs.Claimed.{day-claims}
+use Rattle.evaluation.specs.Promises.{changing, Changes, opened-view}
 use Rattle.evaluation.specs.MendedRuns.{RunsMended}
-use Rattle.evaluation.specs.StoredAfter.{RunsStore}
+use Rattle.evaluation.specs.StoredAfter.{RunsStore, SameMessage}
 use Rattle.evaluation.proofs.Claimed.{demand-3}
 use Rattle.evaluation.proofs.Mended.{runs-mended}
 use Rattle.evaluation.proofs.Stored.{runs-store}
+use Rattle.evaluation.proofs.Messages.{same-message}
 use Rattle.evaluation_finding.specs.FoundAfter.{FindsTheBook}
 use Rattle.evaluation_finding.proofs.FoundBook.{finds-the-book}
 use Rattle.evaluation_numbers.specs.Numbers.{result-said, policy-said, disposition-said, accepted-numbers, ask-numbers, refused-numbers}
@@ -117,7 +119,7 @@ book-holds m cs c = record {
 }
 
 calls-hold : CallsHold
-unfolding AskingClaimed BookClaimed NextCloses Defers result-said policy-said disposition-said accepted-numbers ask-numbers refused-numbers
+unfolding AskingClaimed BookClaimed NextCloses changing Changes opened-view SameMessage Defers result-said policy-said disposition-said accepted-numbers ask-numbers refused-numbers
 calls-hold = record {
   any-run = λ R A t s r. run-holds t s (asking-claimed R A t s r);
   book-run = λ m o cs. run-holds _ _ (book-claimed m o cs .of-its-run);
@@ -127,7 +129,11 @@ calls-hold = record {
   asks = λ b. nothing-yet b .asks;
   no-result = λ b. nothing-yet b .no-result;
   no-field = λ b. nothing-yet b .no-field;
+  opening-accepted = λ author existence support before r c m e. (rw e at c) .0;
+  opening-refused = λ author existence support before r c f e. rw e at c;
+  evaluation-stands = λ before after c g f d e. d .stands (ap changing e);
   as-the-book = demand-3 .as-the-book;
+  same-message = same-message;
   before-opening = demand-3 .before-opening;
   by-numbers = by-numbers;
   accepted-defers = λ n. (refl, refl, refl);

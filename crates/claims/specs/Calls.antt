@@ -5,7 +5,7 @@ use mathlib.Core.Bool.{true, false}
 use Prim.Native.Nat.{ℕ, _+_, _*_, _≤_}
 use lib.ListN.{length}
 use Rattle.octets.specs.Octets.{Octets}
-use Rattle.octets.specs.Refusing.{ok, refusal}
+use Rattle.octets.specs.Refusing.{ok, not-ok, refusal}
 use Rattle.octets.specs.declared.Refusal.{Refusal}
 use Rattle.lookup.specs.Lookup.{Name, Lookups, once, list, needs, Completes}
 use Rattle.domain.specs.declared.Octet.{Octet}
@@ -23,8 +23,11 @@ use Rattle.book.specs.Book.{Call, add, next, result, field, Book, opened, walks
 use Rattle.book.specs.BookClaims.{book-after, book-gave, given-names, any-handed-out, accepted-addings, lent}
 use Rattle.evaluation.specs.declared.Evaluation.{Evaluation}
 use Rattle.evaluation.specs.declared.Changed.{Changed}
-use Rattle.evaluation.specs.code.View.{Changes, opened-view}
+use Rattle.evaluation.specs.declared.Acceptance.{Acceptance}
+use Rattle.evaluation.specs.GivenBack.{message-now}
+use Rattle.evaluation.specs.Promises.{Does, Changes, opened-view}
 use Rattle.evaluation.specs.Demand3.{Ran, unopened}
+use Rattle.evaluation.specs.StoredAfter.{Left}
 use Rattle.evaluation_numbers.specs.declared.State.{State}
 use Rattle.evaluation_numbers.specs.declared.Called.{Called}
 use Rattle.evaluation_numbers.specs.declared.GivenNumbers.{GivenNumbers}
@@ -75,10 +78,21 @@ pub record CallsHold : Type 1 where
       → book-call b next ≡ (record { message = b .message; handed-out = true; run = with-asked (b .run) n }, given (ask-name n) [])
   pub no-result : (b : Book) (n : Name) → standing (walks b) (b .run) ≡ needs n → book-call b result ≡ (b, given (refused (refusal 7 0)) [])
   pub no-field : (b : Book) (n : Name) (output : Octets) → standing (walks b) (b .run) ≡ needs n → book-call b (field output) ≡ (b, given (refused (refusal 7 0)) output)
+  -- "opening keeps 1 and 3": accepted it says so; refused it says so, and gives back the very same evaluation
+  pub opening-accepted : (author : Octets) (existence support : ℕ) (before : Evaluation) (r : Changed) → Changes before (opened-view (opening author existence support)) r
+      → (m : Message) → opening author existence support ≡ ok m → r .acceptance ≡ Acceptance.Accepted
+  pub opening-refused : (author : Octets) (existence support : ℕ) (before : Evaluation) (r : Changed) → Changes before (opened-view (opening author existence support)) r
+      → (f : Refusal) → opening author existence support ≡ not-ok f → r ≡ record { evaluation = before; acceptance = Acceptance.Refused f }
+  -- "the evaluation then stands as it did": a refused call gives back the very same evaluation
+  pub evaluation-stands : (before after : Evaluation) (c : Call) (g : Given Verdict) (f : Refusal) → Does before c after g → g .back ≡ refused f → after ≡ before
   -- "After the list, all that the calls gave back and wrote is as in 01's book": of the calls themselves
   pub as-the-book : (author : Octets) (existence support : ℕ) (before : Evaluation) (r : Changed) → Changes before (opened-view (opening author existence support)) r
       → (m : Message) → opening author existence support ≡ ok m
       → (cs : List Call) (gs : List (Given Verdict)) → Ran (r .evaluation) cs gs → gs ≡ transcript book-call (opened m) cs
+  -- and the message that their numbers are read by is the book's
+  pub same-message : (author : Octets) (existence support : ℕ) (before : Evaluation) (r : Changed) → Changes before (opened-view (opening author existence support)) r
+      → (m : Message) → opening author existence support ≡ ok m
+      → (cs : List Call) (e : Evaluation) → Left (r .evaluation) cs e → message-now e ≡ book-after m cs .message
   -- before an opening every call is refused, by 01's number
   pub before-opening : (e : Evaluation) → e .started ≡ false → (cs : List Call) (gs : List (Given Verdict)) → Ran e cs gs → gs ≡ map unopened cs
   -- and of the calls by numbers, whatever octets the state had

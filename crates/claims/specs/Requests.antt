@@ -47,12 +47,13 @@ use Rattle.rows_day.specs.declared.Changed.{Changed as ListChanged}
 use Rattle.rows_day.specs.Day.{domain-in, Does, Ran}
 use Rattle.evaluation.specs.declared.Evaluation.{Evaluation}
 use Rattle.evaluation.specs.declared.Changed.{Changed}
-use Rattle.evaluation.specs.code.View.{Changes, opened-view}
+use Rattle.evaluation.specs.Promises.{Changes, opened-view}
 use Rattle.evaluation.specs.GivenBack.{message-now}
 use Rattle.evaluation.specs.MendedRuns.{Judged}
 use Rattle.evaluation.specs.StoredAfter.{replies, Left}
 use Rattle.evaluation_finding.specs.declared.Found.{Found}
-use Rattle.evaluation_finding.specs.code.Entering.{found-in, Finds}
+use Rattle.evaluation_finding.specs.code.Entering.{Finds}
+use Rattle.evaluation_finding.specs.FoundRead.{found-in}
 use Rattle.evaluation_finding.specs.FoundAfter.{finding-by}
 
 -- ------------------------------------------------------------------ Ask 1: daily rows
@@ -142,6 +143,7 @@ pub record ErrorsHold : Type 0 where
 
 -- ------------------------------------------------------------------ all requests that have landed
 
+-- Ask 3 is a promise of code alone: `Passes` (`domain/specs/OnePass.antt`), of every domain
 pub record RequestsHold : Type 0 where
   pub daily-rows : RowsHold
   -- Ask 2, computed

@@ -29,7 +29,8 @@ use Rattle.evaluation.specs.declared.Resulting.{Resulting}
 use Rattle.asking.specs.Asking.{given}
 use Rattle.book.specs.Book.{next}
 use Rattle.evaluation.specs.code.Machine.{keeps-nothing, keeps-opened, next-at, judged-by, judged-at, judged, result-back, machine-call}
-use Rattle.evaluation.specs.code.View.{replies-now, cursor-now, handed-view, view-by, view, begin-of-slot, Does, resulting-in, ResultFixed, DoesResult}
+use Rattle.evaluation.specs.code.View.{replies-now, cursor-now, handed-view, view-by, view, begin-of-slot}
+use Rattle.evaluation.specs.Promises.{Does, resulting-in, ResultFixed, DoesResult}
 use Rattle.evaluation.specs.GivenBack.{message-now, step-back, resulting-back}
 
 -- ------------------------------------------------------------------ next step

@@ -33,7 +33,8 @@ use Rattle.book.proofs.FirstName.{first-name}
 use Rattle.book.proofs.BookLaws.{Kept, kept-opened, kept-call, kept-after, after-snoc}
 use Rattle.evaluation.specs.declared.Evaluation.{Evaluation}
 use Rattle.evaluation.specs.code.Machine.{Keeps, keeps-opened, add-by, add-at, point, now-asking, next-by, next-from, next-at, moved, keeping, answer-taken, has-room, answer-at, judged-by, judged-at, judged, result-back, field-at, machine-call}
-use Rattle.evaluation.specs.code.View.{view, Does}
+use Rattle.evaluation.specs.code.View.{view}
+use Rattle.evaluation.specs.Promises.{Does}
 use Rattle.evaluation.specs.code.Showing.{shows, Beside, Shows}
 use Rattle.evaluation.specs.Demand3.{Ran}
 use Rattle.evaluation.specs.StoredAfter.{replies, Left}

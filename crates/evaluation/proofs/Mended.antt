@@ -8,7 +8,7 @@ use Rattle.book.specs.Book.{Call, result, opened, book-result, book-call}
 use Rattle.book.specs.BookClaims.{book-after}
 use Rattle.book.specs.MendedCalls.{CallsMended}
 use Rattle.book.proofs.Mended.{calls-mended}
-use Rattle.evaluation.specs.code.View.{Changes, opened-view}
+use Rattle.evaluation.specs.Promises.{Changes, opened-view}
 use Rattle.evaluation.specs.MendedRuns.{Judged, RunsMended}
 use Rattle.evaluation.proofs.MachineLaws.{as-the-book}
 

@@ -18,7 +18,8 @@ use Rattle.book.proofs.FirstName.{first-walked}
 use Rattle.book.proofs.BookLaws.{Kept, kept-after}
 use Rattle.evaluation.specs.declared.Evaluation.{Evaluation}
 use Rattle.evaluation.specs.code.Machine.{Keeps}
-use Rattle.evaluation.specs.code.View.{numbers-kept, Numbered, Changes, opened-view}
+use Rattle.evaluation.specs.code.View.{numbers-kept, Numbered}
+use Rattle.evaluation.specs.Promises.{Changes, opened-view}
 use Rattle.evaluation.specs.code.Showing.{shows, Beside}
 use Rattle.evaluation.specs.StoredAfter.{replies, Left, RunsStore}
 use Rattle.evaluation.proofs.MachineLaws.{left-as-the-book}

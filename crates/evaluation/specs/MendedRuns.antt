@@ -14,7 +14,7 @@ use Rattle.book.specs.BookClaims.{book-after}
 use Rattle.book.specs.MendedCalls.{AnswersMend}
 use Rattle.evaluation.specs.declared.Evaluation.{Evaluation}
 use Rattle.evaluation.specs.declared.Changed.{Changed}
-use Rattle.evaluation.specs.code.View.{Changes, opened-view}
+use Rattle.evaluation.specs.Promises.{Changes, opened-view}
 use Rattle.evaluation.specs.Demand3.{Ran}
 
 -- a run as in demand 3 that gives a verdict: an opening that accepts the message, calls after it, refused ones too, and then a result call

@@ -17,7 +17,8 @@ use Rattle.book.specs.Book.{Call}
 use Rattle.book.specs.BookClaims.{book-after}
 use Rattle.evaluation.specs.declared.Evaluation.{Evaluation}
 use Rattle.evaluation.specs.declared.Changed.{Changed}
-use Rattle.evaluation.specs.code.View.{Does, Changes, opened-view}
+use Rattle.evaluation.specs.GivenBack.{message-now}
+use Rattle.evaluation.specs.Promises.{Does, Changes, opened-view}
 
 -- accepted answers, each read
 unfoldable pub replies : Answers Answer → Answers Reply
@@ -37,3 +38,10 @@ RunsStore =
     → (m : Message) → opening author existence support ≡ ok m
     → (cs : List Call) (e : Evaluation) → Left (r .evaluation) cs e
     → (walk : ℕ) → getD (e .stored) walk 0 ≡ getD (numbers-stored (replies (book-after m cs .run .taken)) (book-after m cs .message)) walk 0
+
+-- the message that an evaluation has stored is the book's, "the identifiers as they then stand": by it a verdict's numbers are read
+unfoldable pub SameMessage : Type 0
+SameMessage =
+    (author : Octets) (existence support : ℕ) (before : Evaluation) (r : Changed) → Changes before (opened-view (opening author existence support)) r
+    → (m : Message) → opening author existence support ≡ ok m
+    → (cs : List Call) (e : Evaluation) → Left (r .evaluation) cs e → message-now e ≡ book-after m cs .message

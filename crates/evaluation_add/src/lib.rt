@@ -9,7 +9,7 @@ ghost use Rattle.verdict.specs.Message.{Message};
 ghost use Rattle.asking.specs.Asking.{given};
 ghost use Rattle.book.specs.Start.{is-spf, with-identifier, adding};
 ghost use Rattle.book.specs.Book.{add};
-ghost use Rattle.evaluation.specs.code.View.{Does};
+ghost use Rattle.evaluation.specs.Promises.{Does};
 ghost use Rattle.evaluation.specs.GivenBack.{acceptance-back};
 ghost use Rattle.evaluation_open.specs.code.Opening.{Holds, Opens};
 use alignment::Kind;

@@ -1,7 +1,7 @@
 // An answer for the name now asked.
 ghost use Rattle.asking.specs.Asking.{given};
 ghost use Rattle.book.specs.Book.{answer};
-ghost use Rattle.evaluation.specs.code.View.{Does};
+ghost use Rattle.evaluation.specs.Promises.{Does};
 ghost use Rattle.evaluation.specs.GivenBack.{acceptance-back};
 use evaluation::Acceptance;
 use evaluation::Changed;

@@ -6,7 +6,7 @@ ghost use Rattle.verdict_judgement.specs.code.Judging.{stored-message};
 ghost use Rattle.verdict_judgement.specs.Reading.{verdict-in};
 ghost use Rattle.asking.specs.Asking.{given};
 ghost use Rattle.book.specs.Book.{field, back-of, passed-or-failed, field-of};
-ghost use Rattle.evaluation.specs.code.View.{Does};
+ghost use Rattle.evaluation.specs.Promises.{Does};
 use evaluation::Evaluation;
 use evaluation::Resulting;
 use octets::Written;

@@ -6,7 +6,7 @@ use Rattle.verdict.specs.Message.{Message}
 use Rattle.verdict.specs.Verdict.{Verdict}
 use Rattle.rows.specs.Rows.{finding-of}
 use Rattle.evaluation.specs.code.Machine.{judged-by}
-use Rattle.evaluation.specs.code.View.{Changes, opened-view}
+use Rattle.evaluation.specs.Promises.{Changes, opened-view}
 use Rattle.evaluation.proofs.MachineLaws.{judged-as-the-book}
 use Rattle.evaluation_finding.specs.code.Entering.{to-enter}
 use Rattle.evaluation_finding.specs.FoundAfter.{finding-by, FindsTheBook}

@@ -16,11 +16,12 @@ use Rattle.rows.specs.declared.Finding.{Finding}
 use Rattle.rows.specs.Rows.{finding-of}
 use Rattle.evaluation.specs.declared.Evaluation.{Evaluation}
 use Rattle.evaluation.specs.declared.Changed.{Changed}
-use Rattle.evaluation.specs.code.View.{Changes, opened-view}
+use Rattle.evaluation.specs.Promises.{Changes, opened-view}
 use Rattle.evaluation.specs.GivenBack.{message-now}
 use Rattle.evaluation.specs.StoredAfter.{Left}
 use Rattle.evaluation_finding.specs.declared.Found.{Found}
-use Rattle.evaluation_finding.specs.code.Entering.{found-in, Finds}
+use Rattle.evaluation_finding.specs.code.Entering.{Finds}
+use Rattle.evaluation_finding.specs.FoundRead.{found-in}
 
 -- by 01's book: 7 while a name lacks an answer; else what its verdict says to a list, and the domain of the applied record
 unfoldable pub finding-by : Message → Standing Verdict → OrRefused (Finding × Domain)

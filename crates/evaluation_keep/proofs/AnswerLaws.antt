@@ -31,7 +31,8 @@ use Rattle.book.specs.Book.{answer}
 use Rattle.evaluation.specs.declared.Evaluation.{Evaluation}
 use Rattle.evaluation.specs.declared.Acceptance.{Acceptance}
 use Rattle.evaluation.specs.code.Machine.{Keeps, keeps-nothing, keeps-opened, moved, keeping, answer-taken, has-room, answer-at, machine-call}
-use Rattle.evaluation.specs.code.View.{replies-now, cursor-now, asked-now, handed-view, view-by, view, numbers-kept, Numbered, changing, Does}
+use Rattle.evaluation.specs.code.View.{replies-now, cursor-now, asked-now, handed-view, view-by, view, numbers-kept, Numbered}
+use Rattle.evaluation.specs.Promises.{changing, Does}
 use Rattle.evaluation.specs.GivenBack.{message-now, marked, acceptance-back}
 use Rattle.evaluation.proofs.CallLaws.{replies-length}
 use Rattle.evaluation_keep.specs.code.Asking.{answered}

@@ -11,7 +11,7 @@ use Rattle.evaluation.specs.declared.Evaluation.{Evaluation}
 use Rattle.evaluation.specs.declared.Step.{Step}
 use Rattle.evaluation.specs.declared.Acceptance.{Acceptance}
 use Rattle.evaluation.specs.code.Machine.{Keeps}
-use Rattle.evaluation.specs.code.View.{changing, Does, DoesNext, Changes}
+use Rattle.evaluation.specs.Promises.{changing, Does, DoesNext, Changes}
 use Rattle.evaluation.specs.GivenBack.{acceptance-back as acceptance-given, step-back as step-given}
 use Rattle.evaluation_numbers.specs.declared.State.{State}
 use Rattle.evaluation_numbers.specs.declared.GivenNumbers.{GivenNumbers}

@@ -5,7 +5,7 @@ use Rattle.octets.specs.declared.Written.{Written}
 use Rattle.asking.specs.Asking.{given}
 use Rattle.book.specs.Book.{field, back-of}
 use Rattle.evaluation.specs.declared.Resulting.{Resulting}
-use Rattle.evaluation.specs.code.View.{Does, DoesResult}
+use Rattle.evaluation.specs.Promises.{Does, DoesResult}
 use Rattle.evaluation_finding.specs.declared.Found.{Found}
 use Rattle.evaluation_finding.specs.code.Entering.{Finds}
 use Rattle.evaluation_numbers.specs.declared.State.{State}

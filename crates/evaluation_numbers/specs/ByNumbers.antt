@@ -9,7 +9,7 @@ use Rattle.verdict.specs.Verdict.{Verdict}
 use Rattle.asking.specs.Asking.{Given, transcript}
 use Rattle.book.specs.Start.{opening}
 use Rattle.book.specs.Book.{Call, opened, book-call}
-use Rattle.evaluation.specs.code.View.{Does, opened-view}
+use Rattle.evaluation.specs.Promises.{Does, opened-view}
 use Rattle.evaluation_numbers.specs.declared.State.{State}
 use Rattle.evaluation_numbers.specs.declared.Called.{Called}
 use Rattle.evaluation_numbers.specs.Numbers.{held-of, Opened}

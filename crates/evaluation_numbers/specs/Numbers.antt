@@ -26,7 +26,7 @@ use Rattle.evaluation.specs.declared.Step.{Step}
 use Rattle.evaluation.specs.declared.Resulting.{Resulting}
 use Rattle.evaluation.specs.declared.Acceptance.{Acceptance}
 use Rattle.evaluation.specs.code.Machine.{Keeps}
-use Rattle.evaluation.specs.code.View.{Does, DoesNext, DoesResult, Changes}
+use Rattle.evaluation.specs.Promises.{Does, DoesNext, DoesResult, Changes}
 use Rattle.evaluation.specs.GivenBack.{acceptance-back}
 use Rattle.evaluation_open.specs.code.Opening.{existence-in}
 use Rattle.evaluation_finding.specs.declared.Found.{Found}

@@ -5,7 +5,7 @@ ghost use Prim.Native.Nat.{_≤_};
 ghost use lib.ListN.{length, replicate};
 ghost use Rattle.octets.specs.Octets.{lower};
 ghost use Rattle.book.specs.Start.{opening};
-ghost use Rattle.evaluation.specs.code.View.{Changes, opened-view};
+ghost use Rattle.evaluation.specs.Promises.{Changes, opened-view};
 ghost use Rattle.evaluation_open.specs.code.Opening.{existence-in, Holds};
 use domain_rule::Checked;
 use evaluation::Acceptance;

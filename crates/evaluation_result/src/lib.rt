@@ -1,7 +1,7 @@
 // The result.
 ghost use mathlib.Core.Path.{_≡_};
 ghost use Prim.Native.Nat.{min};
-ghost use Rattle.evaluation.specs.code.View.{DoesResult};
+ghost use Rattle.evaluation.specs.Promises.{DoesResult};
 use evaluation::Evaluation;
 use evaluation::Resulting;
 use evaluation::Verdict;

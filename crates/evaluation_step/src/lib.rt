@@ -1,5 +1,5 @@
 // The next step.
-ghost use Rattle.evaluation.specs.code.View.{DoesNext};
+ghost use Rattle.evaluation.specs.Promises.{DoesNext};
 use evaluation::Evaluation;
 use evaluation::Step;
 use evaluation::Stepped;

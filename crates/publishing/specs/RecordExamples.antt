@@ -45,8 +45,8 @@ reject = Setting.Set Policy.Reject
 abbrev writes : Settings → (rua text : String) → RecordRow
 writes s rua text = record { settings = s; rua = rua; text = ok (octets text) }
 
-abbrev refuses : Settings → (rua : String) → (number : ℕ) → RecordRow
-refuses s rua n = record { settings = s; rua = rua; text = not-ok (refusal n 0) }
+abbrev not-written : Settings → (rua : String) → (number : ℕ) → RecordRow
+not-written s rua n = record { settings = s; rua = rua; text = not-ok (refusal n 0) }
 
 unfoldable pub record-table : List RecordRow
 record-table =
@@ -67,11 +67,11 @@ record-table =
     ∷ writes (of-tags reject quarantine none Mode.Strict Mode.Strict Psd.No true) "mailto:a@b.example"
     "v=DMARC1; p=reject; sp=quarantine; np=none; adkim=s; aspf=s; psd=n; t=y; rua=mailto:a@b.example"
     -- "15 `p` absent or a policy setting invalid"; "order 15, 16"
-    ∷ refuses (policies absent none none) "" 15
-    ∷ refuses (policies none invalid absent) "x" 15
+    ∷ not-written (policies absent none none) "" 15
+    ∷ not-written (policies none invalid absent) "x" 15
     -- "16 a rua text that .. has an entry that is not valid, .. a blank at either end"
-    ∷ refuses (policies none absent absent) "mailto:a@b.example,x" 16
-    ∷ refuses (policies none absent absent) "mailto:a@b.example " 16
+    ∷ not-written (policies none absent absent) "mailto:a@b.example,x" 16
+    ∷ not-written (policies none absent absent) "mailto:a@b.example " 16
     ∷ []
 
 unfoldable pub RecordsWritten : Type 0

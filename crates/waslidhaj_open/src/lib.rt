@@ -2,7 +2,7 @@
 ghost use mathlib.Core.List.{[]};
 ghost use Rattle.book.specs.Start.{opening};
 ghost use Rattle.book.specs.Book.{add};
-ghost use Rattle.evaluation.specs.code.View.{opened-view};
+ghost use Rattle.evaluation.specs.Promises.{opened-view};
 ghost use Rattle.evaluation_numbers.specs.Numbers.{Opened, Accepts};
 use evaluation_numbers::Called;
 use evaluation_numbers::State;

@@ -1,5 +1,6 @@
-//! `docs/CLAIMS.md` is true of the crates: it names every claim of `Delivered`,
-//! and every must-fail edit that it names is there.
+//! Claims do not vanish unseen: all that is claimed is on a list, and
+//! `docs/CLAIMS.md` is true of the crates. It names every claim of `Delivered`, and
+//! every claim and every must-fail edit that it names is there.
 
 use std::collections::BTreeSet;
 use std::fs;
@@ -44,12 +45,81 @@ fn quoted(text: &str) -> Vec<&str> {
     text.split('`').skip(1).step_by(2).collect()
 }
 
-/// Fields that are not records of claims themselves.
-fn claims(text: &str) -> Vec<String> {
-    let fields = text.lines().filter_map(|line| line.strip_prefix("  pub "));
-    let fields = fields.filter_map(|line| line.split_once(" : "));
-    let fields = fields.filter(|(_, kind)| !kind.ends_with("Hold"));
-    fields.map(|(name, _)| name.to_string()).collect()
+/// The fields of the records in a file, each behind its record's name.
+fn fields(text: &str) -> Vec<String> {
+    let mut record = "";
+    let mut fields = Vec::new();
+    for line in text.lines() {
+        if let Some(rest) = line.strip_prefix("pub record ") {
+            record = rest.split(' ').next().expect("a name");
+        } else if let Some((name, _)) = line
+            .strip_prefix("  pub ")
+            .and_then(|field| field.split_once(" : "))
+        {
+            fields.push(format!("{record}.{name}"));
+        }
+    }
+    fields
+}
+
+/// A table in a file and how many rows it has: what begins with one of these words.
+fn rows(text: &str, table: &str, words: &[&str]) -> String {
+    let (_, table_text) = text
+        .split_once(&format!("\n{table} =\n"))
+        .unwrap_or_else(|| panic!("no table {table}"));
+    let (rows, _) = table_text.split_once("∷ []\n\n").expect("its end");
+    let begins = |part: &&str| words.contains(part);
+    let count = rows.split_whitespace().filter(begins).count();
+    format!("{table}: {count} rows")
+}
+
+/// Files with computed examples that are records, and those that are tables, with
+/// the words that begin a row.
+const EXAMPLES: [&str; 5] = [
+    "domain/specs/FinalDot.antt",
+    "policy/specs/Repeated.antt",
+    "reporting/specs/Examples.antt",
+    "book/specs/AddingCalls.antt",
+    "verdict/specs/StoredExamples.antt",
+];
+const TABLES: [(&str, &str, &[&str]); 4] = [
+    ("sheet/specs/Marked.antt", "table", &["row"]),
+    ("sheet/specs/Dotted.antt", "dotted", &["row"]),
+    (
+        "publishing/specs/RecordExamples.antt",
+        "record-table",
+        &["writes", "not-written"],
+    ),
+    (
+        "book/specs/FieldExamples.antt",
+        "field-table",
+        &["lists", "has-no-field"],
+    ),
+];
+
+/// Everything that is claimed, by name, and how many rows each table has.
+fn delivered() -> Vec<String> {
+    let crates = root().join("crates");
+    let claims = files(&crates.join("claims/specs"), ".antt");
+    let examples = EXAMPLES.iter().map(|file| crates.join(file));
+    let mut names: Vec<String> = claims
+        .into_iter()
+        .chain(examples)
+        .flat_map(|file| fields(&read(&file)))
+        .collect();
+    let table = |(file, table, words): &(&str, &str, &[&str])| {
+        rows(&read(&crates.join(file)), table, words)
+    };
+    names.extend(TABLES.iter().map(table));
+    names
+}
+
+/// A claim that goes, or comes, is written down here too.
+#[test]
+fn everything_claimed_is_on_the_list() {
+    let list = read(&root().join("tools/desk/tests/claims/delivered.txt"));
+    let list: Vec<&str> = list.lines().collect();
+    assert_eq!(delivered(), list);
 }
 
 #[test]
@@ -59,17 +129,36 @@ fn every_claim_is_named() {
         .into_iter()
         .map(|name| name.rsplit('.').next().expect("a last part"))
         .collect();
-    let mut count = 0;
     for file in files(&root().join("crates/claims/specs"), ".antt") {
-        for claim in claims(&read(&file)) {
+        let text = read(&file);
+        // Fields that are records of claims themselves are named by these.
+        let records: Vec<&str> = text.lines().filter(|line| line.ends_with("Hold")).collect();
+        for claim in fields(&text) {
+            let name = claim.split('.').nth(1).expect("a field");
+            let is_record = records
+                .iter()
+                .any(|line| line.starts_with(&format!("  pub {name} : ")));
             assert!(
-                names.contains(claim.as_str()),
+                is_record || names.contains(name),
                 "docs/CLAIMS.md does not name {claim}"
             );
-            count += 1;
         }
     }
-    assert!(count > 60, "only {count} claims were found");
+}
+
+/// Each claim that the page names, as `SumsHold.total`, is there.
+#[test]
+fn every_claim_that_is_named_is_there() {
+    let page = read(&root().join("docs/CLAIMS.md"));
+    let claims: BTreeSet<String> = delivered().into_iter().collect();
+    for name in quoted(&page) {
+        let Some((record, _)) = name.split_once('.') else {
+            continue;
+        };
+        if record.ends_with("Hold") || record.ends_with("Holds") {
+            assert!(claims.contains(name), "no claim {name}");
+        }
+    }
 }
 
 /// A name as edits and crates have it.

@@ -1,6 +1,6 @@
 -- `evaluation_finding::finding` meets its contract.
 use borrow.Author.Needs.{needs}
-use Rattle.evaluation.specs.code.View.{ResultFixed}
+use Rattle.evaluation.specs.Promises.{ResultFixed}
 use Rattle.evaluation.specs.GivenBack.{message-now}
 use Rattle.evaluation_finding.proofs.FindingLaws.{found-refused, found-verdict}
 use Rattle.evaluation_finding.proofs.finding.Statement.{statement}

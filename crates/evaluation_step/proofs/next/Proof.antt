@@ -6,7 +6,8 @@ use lib.ListN.{length, length-map}
 use borrow.Author.Tests.{not-true, not-false}
 use Rattle.verdict_judgement.specs.code.Judging.{judged-standing, JudgedFixed}
 use Rattle.verdict_cursor.specs.code.Cursor.{stands}
-use Rattle.evaluation.specs.code.View.{cursor-now, StepFixed}
+use Rattle.evaluation.specs.code.View.{cursor-now}
+use Rattle.evaluation.specs.Promises.{StepFixed}
 use Rattle.evaluation.specs.GivenBack.{message-now}
 use Rattle.evaluation.proofs.CallLaws.{next-not-started}
 use Rattle.evaluation_first.specs.code.Pointing.{Points}

@@ -3,7 +3,7 @@ use borrow.Author.Needs.{needs}
 use Rattle.sheet_turn.proofs.ConversingLaws.{asks, ends, not-refused, ending}
 use mathlib.Core.Path.{_≡_, refl, _∙_}
 use Rattle.sheet_turn.proofs.NameLaws.{front-part}
-use Rattle.evaluation.specs.code.View.{Does}
+use Rattle.evaluation.specs.Promises.{Does}
 use Rattle.evaluation.specs.GivenBack.{message-now, marked, step-back}
 use Rattle.verdict_judgement.specs.Reading.{verdict-in}
 use Rattle.asking.specs.Asking.{given, ask-name}
