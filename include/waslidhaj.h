@@ -66,6 +66,7 @@ enum {
  *   waslidhaj_file_name        2048          2048
  *   waslidhaj_write_record     2048          6144
  *   waslidhaj_read_record     18432
+ *   waslidhaj_read_field       1024
  *
  * Add 4,096 where a program binds memcpy at its first call. Every call fits a thread of 128 KiB, but waslidhaj_run where its
  * memory overlaps. Enough for every call but waslidhaj_run, and for that one, is: */
@@ -439,6 +440,20 @@ static inline waslidhaj_written waslidhaj_write_record(waslidhaj_settings settin
 
 /* Reads a text as a policy record. */
 waslidhaj_record_read waslidhaj_read_record(const uint8_t *text, size_t text_length);
+
+/* ---- The Identity-Alignment field ---- */
+
+/* The methods that a field names, 1 or 0: those that failed to authenticate an aligned identity (RFC 9991); neither for `none`.
+ * Refused, both are 1, so that a field that was not read never says that all went well. */
+typedef struct {
+  waslidhaj_refusal refusal;
+  uint8_t dkim;
+  uint8_t spf;
+} waslidhaj_field_read;
+
+/* Reads a field, its name and its closing CR LF included. Refused 24 (not the grammar: at the first octet that it cannot have
+ * there, or at the length), 25 (at the ninth parenthesis open at once), 26 (where a method that it named already begins). */
+waslidhaj_field_read waslidhaj_read_field(const uint8_t *text, size_t text_length);
 
 #ifdef __cplusplus
 }

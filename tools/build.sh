@@ -6,7 +6,7 @@
 program=$root/target/bin/dmarc
 library=$root/target/lib/libwaslidhaj.a
 # The crates whose functions the library has.
-parts="sheet_run waslidhaj_open waslidhaj_calls waslidhaj_reads waslidhaj_rows waslidhaj_names waslidhaj_records"
+parts="sheet_run waslidhaj_open waslidhaj_calls waslidhaj_reads waslidhaj_rows waslidhaj_names waslidhaj_records waslidhaj_fields"
 tools=$root/tools/target/release/dmarc-tools
 records=$root/tools/target/release/dmarc-records
 # What rt said when it last proved for a script.

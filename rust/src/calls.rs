@@ -163,3 +163,9 @@ pub fn read_record(text: &[u8]) -> RecordRead {
     // SAFETY: the text is lent by its pointer and length.
     unsafe { waslidhaj_read_record(text.as_ptr(), text.len()) }
 }
+
+/// Reads an Identity-Alignment field.
+pub fn read_field(text: &[u8]) -> FieldRead {
+    // SAFETY: the text is lent by its pointer and length.
+    unsafe { waslidhaj_read_field(text.as_ptr(), text.len()) }
+}

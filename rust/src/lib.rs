@@ -63,8 +63,9 @@
 //! leaves the evaluation and lent memory as they were.
 //!
 //! Beside evaluations there are [`DayList`] (a day's verdicts, gathered in rows),
-//! [`FileName`] (of a report), [`policy`] (policy records written and read) and
-//! [`run`] (a whole message from a sheet). [`calls`] and [`raw`] have the C
+//! [`FileName`] (of a report), [`policy`] (policy records written and read),
+//! [`read_field`] (an Identity-Alignment field) and [`run`] (a whole message from a
+//! sheet). [`calls`] and [`raw`] have the C
 //! interface itself.
 
 #![deny(unsafe_code)]
@@ -74,6 +75,7 @@ mod answer;
 #[allow(unsafe_code)]
 pub mod calls;
 mod evaluation;
+mod field;
 mod name;
 mod numbers;
 pub mod policy;
@@ -86,6 +88,7 @@ mod verdict;
 
 pub use answer::{records, Answer};
 pub use evaluation::{Evaluation, Step};
+pub use field::{read_field, Methods};
 pub use name::Name;
 pub use numbers::{Alignment, AppliedPolicy, Disposition, DmarcResult};
 pub use numbers::{Existence, Kind, Outcome};

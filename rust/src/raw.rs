@@ -272,6 +272,19 @@ pub struct RecordRead {
     pub rua_length: usize,
 }
 
+/// An Identity-Alignment field as it was read: the methods that it names, 1 or 0.
+/// Refused, both are 1.
+#[repr(C)]
+#[derive(Clone, Copy, Debug, Default, PartialEq, Eq)]
+pub struct FieldRead {
+    /// The refusal, of number 0 if it was read.
+    pub refusal: Refusal,
+    /// Whether it names DKIM.
+    pub dkim: u8,
+    /// Whether it names SPF.
+    pub spf: u8,
+}
+
 #[cfg(target_pointer_width = "64")]
 const _: () = {
     assert!(size_of::<State>() == 5352);
@@ -378,4 +391,6 @@ extern "C" {
     ) -> Written;
 
     pub(crate) fn waslidhaj_read_record(text: *const u8, text_length: usize) -> RecordRead;
+
+    pub(crate) fn waslidhaj_read_field(text: *const u8, text_length: usize) -> FieldRead;
 }

@@ -33,6 +33,9 @@ const MEANINGS: &[(u8, &str)] = &[
     (15, "p is absent, or a policy setting is invalid"),
     (16, "a rua text that cannot be written"),
     (17, "too late for an identifier, or nothing was opened"),
+    (24, "not the grammar of the field"),
+    (25, "a ninth comment within comments"),
+    (26, "a method that the field names already"),
     (27, "another policy domain, or a list never cleared"),
 ];
 

@@ -17,6 +17,13 @@ use Rattle.publishing.proofs.RecordExamples.{records-written}
 use Rattle.txt.proofs.Claimed.{reply-claims}
 use Rattle.reporting.proofs.Examples.{examples}
 use Rattle.book.proofs.FieldExamples.{fields-written}
+use Rattle.field.specs.Numbers.{field-read-numbers}
+use Rattle.field.proofs.Claimed.{field-claims}
+use Rattle.field.proofs.ReadBack.{reads-back}
+use Rattle.field.proofs.Said.{said-again}
+use Rattle.field.proofs.Examples.{fields-read}
+use Rattle.field_states.proofs.ExactLaws.{exactly}
+use Rattle.field_states.proofs.PlaceLaws.{at-parenthesis}
 use Rattle.walk.proofs.Claimed.{walk-claims}
 use Rattle.verdict.specs.Claims.{PassExactly, ErrorShows, AskedAtMost}
 use Rattle.verdict.specs.Mending.{ErrorsMended}
@@ -56,7 +63,7 @@ use Rattle.claims.specs.Rules.{RulesHold}
 use Rattle.claims.specs.Verdicts.{VerdictsHold}
 use Rattle.claims.specs.Runs.{RunHolds}
 use Rattle.claims.specs.Calls.{Defers, BookHolds, CallsHold}
-use Rattle.claims.specs.Requests.{RowsHold, RecordsHold, DotsHold, ErrorsHold, RequestsHold}
+use Rattle.claims.specs.Requests.{RowsHold, RecordsHold, DotsHold, ErrorsHold, FieldsHold, RequestsHold}
 use Rattle.claims.specs.Delivered.{Delivered}
 
 rules-hold : RulesHold
@@ -188,6 +195,22 @@ errors-hold = record {
   of-calls = runs-mended;
 }
 
+fields-hold : FieldsHold
+unfolding field-read-numbers
+fields-hold = record {
+  accepted-exactly = exactly;
+  refused-24 = λ text. field-claims text .refused-24;
+  depth-aside = λ text. field-claims text .depth-aside;
+  refused-25 = λ text p e. (at-parenthesis text p e .0, at-parenthesis text p e .1, field-claims text .refused-25 p e .0, field-claims text .refused-25 p e .1);
+  refused-26 = λ text. field-claims text .refused-26;
+  no-other-number = λ text. field-claims text .numbers;
+  earliest = λ text. field-claims text .nothing-before;
+  field-reads-back = reads-back;
+  field-numbers-say = said-again;
+  refused-names-both = λ r. refl;
+  fields-read = fields-read;
+}
+
 requests-hold : RequestsHold
 unfolding RunsStore AsTheSingleStart SameState
 requests-hold = record {
@@ -201,6 +224,7 @@ requests-hold = record {
   as-the-single-start = as-the-single-start;
   same-state = same-state;
   adding-calls = adding-calls;
+  read-fields = fields-hold;
 }
 
 pub delivered : Delivered

@@ -1,13 +1,15 @@
 -- What is claimed of document 02's requests, in its order.
 use mathlib.Core.Path.{_≡_}
+use mathlib.Core.Logic.{_⊎_, _↔_}
 use mathlib.Core.List.{List, [], _∷_, _++_, map, flatten}
 use mathlib.Core.Bool.{Bool, true, false}
 use mathlib.Core.Option.{none as nothing, some as just}
-use Prim.Native.Nat.{ℕ}
+use Prim.Native.Nat.{ℕ, suc, _+_, _≤_, _<_}
 use lib.Dec.{eqb}
-use lib.ListN.{length, getD}
+use lib.ListN.{length, take, getD}
 use Rattle.octets.specs.Octets.{Octets, octets, is-nothing, same-text}
-use Rattle.octets.specs.Refusing.{ok}
+use Rattle.octets.specs.Refusing.{ok, not-ok, refusal}
+use Rattle.octets.specs.declared.Refusal.{Refusal}
 use Rattle.lookup.specs.Lookup.{Name, value, member}
 use Rattle.domain.specs.Domain.{Domain, without-dot, is-domain}
 use Rattle.domain.specs.FinalDot.{FinalDot}
@@ -20,6 +22,15 @@ use Rattle.publishing.specs.Publishing.{good-rua, written-record}
 use Rattle.publishing.specs.Claims.{beside, Reads}
 use Rattle.publishing.specs.Numbers.{settings-in, numbers-of}
 use Rattle.publishing.specs.RecordExamples.{RecordsWritten}
+use Rattle.grammar.specs.Grammar.{Text, Viable, Fault}
+use Rattle.reporting.specs.declared.Method.{Method}
+use Rattle.reporting.specs.Field.{is-listed, field-text}
+use Rattle.field.specs.Field.{dkim, spf, id-align, field-naming, repeating, any-depth}
+use Rattle.field.specs.Claims.{NoRepeats}
+use Rattle.field.specs.Examples.{FieldsRead}
+use Rattle.field.specs.declared.FieldRead.{FieldRead}
+use Rattle.field.specs.Numbers.{field-read, field-read-numbers, field-read-said}
+use Rattle.field.specs.code.Reading.{read-field}
 use Rattle.txt.specs.declared.Reply.{Reply}
 use Rattle.txt.specs.declared.Status.{Status}
 use Rattle.txt.specs.Answers.{Answer}
@@ -141,6 +152,35 @@ pub record ErrorsHold : Type 0 where
   pub of-calls : (m n : Message) (cs ds : List Call) → book-after m cs .message ≡ book-after n ds .message → AnswersMend (book-after m cs .run .taken) (book-after n ds .run .taken)
       → (v w : Verdict) → Judged m cs v → Judged n ds w → ErrorClaims v w
 
+-- ------------------------------------------------------------------ Ask 12: reading the field
+
+-- of every text
+pub record FieldsHold : Type 0 where
+  -- "What is accepted is exactly that grammar within that depth, read as the methods it names"
+  pub accepted-exactly : (text : Octets) (d s : Bool) → (read-field text ≡ ok (record { dkim = d; spf = s })) ↔ Text (field-naming 8 d s) text
+  -- "24 not the grammar, .., at the first octet it can't have there (the length if the text ends early)"
+  pub refused-24 : (text : Octets) (p : ℕ) → read-field text ≡ not-ok (refusal 24 p) → Fault (id-align (any-depth text)) text p
+  -- "repeats and depth aside": the grammar at any depth has no other front parts of the text
+  pub depth-aside : (text : Octets) (n k : ℕ) → Viable (id-align n) (take k text) → Viable (id-align (any-depth text)) (take k text)
+  -- "25 at the ninth parenthesis open at once": the grammar within eight can't have that octet, the grammar can
+  pub refused-25 : (text : Octets) (p : ℕ) → read-field text ≡ not-ok (refusal 25 p)
+      → (p < length text) × (getD text p 0 ≡ 40) × Fault (id-align 8) text p × Viable (id-align (any-depth text)) (take (suc p) text)
+  -- "26 where a method already read, spelled whole again, begins"
+  pub refused-26 : (text : Octets) (p : ℕ) → read-field text ≡ not-ok (refusal 26 p)
+      → ((p + 4 ≤ length text) × Text (repeating (any-depth text) dkim) (take (p + 4) text))
+      ⊎ ((p + 3 ≤ length text) × Text (repeating (any-depth text) spf) (take (p + 3) text))
+  pub no-other-number : (text : Octets) (r : Refusal) → read-field text ≡ not-ok r → (r .number ≡ 24) ⊎ (r .number ≡ 25) ⊎ (r .number ≡ 26)
+  -- "the earliest is given": up to its place the text begins a field within eight, and no method is spelled again
+  pub earliest : (text : Octets) (r : Refusal) → read-field text ≡ not-ok r
+      → Viable (id-align 8) (take (r .place) text) × NoRepeats (any-depth text) (take (r .place) text)
+  -- "so every field we write reads back as its own"
+  pub field-reads-back : (dkim spf : Method) → read-field (field-text dkim spf) ≡ ok (record { dkim = is-listed dkim; spf = is-listed spf })
+  -- what the reader answers says it: by numbers nothing is lost, and a refused field never reads as `none`
+  pub field-numbers-say : (text : Octets) → field-read-said (field-read-numbers (field-read text)) ≡ field-read text
+  pub refused-names-both : (r : Refusal) → field-read-numbers (FieldRead.Refused r) ≡ record { refusal = r; dkim = 1; spf = 1 }
+  -- computed
+  pub fields-read : FieldsRead
+
 -- ------------------------------------------------------------------ all requests that have landed
 
 -- Ask 3 is a promise of code alone: `Passes` (`domain/specs/OnePass.antt`), of every domain
@@ -163,3 +203,4 @@ pub record RequestsHold : Type 0 where
   pub same-state : (g : GivenMessage) (m n : Message) → opening (g .author) (g .existence) (g .support) ≡ ok m → single-start g ≡ ok n
       → book-after m (map add (g .identifiers)) ≡ opened n
   pub adding-calls : AddingCalls
+  pub read-fields : FieldsHold

@@ -1,12 +1,14 @@
 //! Compares the proved evaluator with the second one, sheet by sheet and call by
 //! call, the proved daily rows with the second evaluator's, history by history,
-//! and the proved writer and reader of policy records, record by record.
+//! the proved writer and reader of policy records, record by record, and the proved
+//! reader of the Identity-Alignment field, field by field.
 
 #![forbid(unsafe_code)]
 
 mod agreement;
 mod calls;
 mod cases;
+mod fields;
 mod histories;
 mod program;
 mod publishing;
@@ -35,6 +37,7 @@ const USAGE: &str = "usage:
   compare vectors
   compare histories COUNT SEED
   compare records COUNT SEED
+  compare fields COUNT SEED
   compare time COUNT SEED
   compare timing COUNT";
 
@@ -47,6 +50,7 @@ fn main() -> ExitCode {
         ["vectors"] => compare_vectors(),
         ["histories", count, seed] => compare_histories([count, seed]),
         ["records", count, seed] => compare_records([count, seed]),
+        ["fields", count, seed] => compare_fields([count, seed]),
         ["time", count, seed] => print_times([count, seed]),
         ["timing", count] => print_timing([count]),
         _ => Err(USAGE.to_string()),
@@ -166,6 +170,15 @@ fn compare_records(words: [&str; 2]) -> Result<(), String> {
         "{}",
         publishing::compare(&records::code::Proved, count, seed)?
     );
+    Ok(())
+}
+
+/// The Identity-Alignment field read by both, in this process.
+fn compare_fields(words: [&str; 2]) -> Result<(), String> {
+    let [count, seed] = numbers(words)?;
+    let reader = records::field::code::proved;
+    let line = fields::compare(reader, fields::proved_writer, count, seed)?;
+    println!("{line}");
     Ok(())
 }
 

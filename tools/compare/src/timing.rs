@@ -1,5 +1,5 @@
 //! The processor time of the proved calls, on messages whose walks are all of full
-//! length.
+//! length, and of the proved reader of the field.
 
 use std::fs;
 use std::hint::black_box;
@@ -36,7 +36,31 @@ pub fn print(count: u64) -> Result<(), String> {
             );
         }
     }
-    print_steps(count)
+    print_steps(count)?;
+    print_fields(count);
+    Ok(())
+}
+
+/// The longest field that we write, and fields with a comment of so many octets.
+fn print_fields(count: u64) {
+    let written = b"Identity-Alignment: dkim, spf\r\n".to_vec();
+    print_field("the longest that we write", &written, count * 100);
+    for kibibytes in [64, 1024] {
+        let comment = "x".repeat(kibibytes << 10);
+        let field = format!("Identity-Alignment: ({comment}) none\r\n");
+        let name = format!("a comment of {kibibytes} KiB");
+        print_field(&name, field.as_bytes(), count.div_ceil(100));
+    }
+}
+
+fn print_field(name: &str, field: &[u8], count: u64) {
+    let time = least(|| {
+        for _ in 0..count {
+            let _ = black_box(waslidhaj::read_field(black_box(field)));
+        }
+    });
+    let (octets, each) = (field.len(), microseconds(time, count));
+    println!("a field of {octets} octets ({name}): {each:.3} microseconds");
 }
 
 /// Makes the calls, and gives how many names the verdict counts.

@@ -75,12 +75,13 @@ fn rows(text: &str, table: &str, words: &[&str]) -> String {
 
 /// Files with computed examples that are records, and those that are tables, with
 /// the words that begin a row.
-const EXAMPLES: [&str; 5] = [
+const EXAMPLES: [&str; 6] = [
     "domain/specs/FinalDot.antt",
     "policy/specs/Repeated.antt",
     "reporting/specs/Examples.antt",
     "book/specs/AddingCalls.antt",
     "verdict/specs/StoredExamples.antt",
+    "field/specs/Examples.antt",
 ];
 const TABLES: [(&str, &str, &[&str]); 4] = [
     ("sheet/specs/Marked.antt", "table", &["row"]),

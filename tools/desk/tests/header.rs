@@ -10,7 +10,9 @@ use std::process::Command;
 use desk::compiler::{archive, compile};
 use desk::header::{Header, Struct};
 use desk::root;
-use waslidhaj::raw::{Called, Entry, Found, Given, List, ListChanged, RecordRead, Refusal};
+use waslidhaj::raw::{
+    Called, Entry, FieldRead, Found, Given, List, ListChanged, RecordRead, Refusal,
+};
 use waslidhaj::raw::{FindingNumbers, Row, Seen, Settings, State, Verdict, Written};
 use waslidhaj::raw::{ACCEPTED, ASK, REFUSED, VERDICT};
 use waslidhaj::{Alignment, AppliedPolicy, Disposition, DmarcResult};
@@ -114,6 +116,7 @@ fn layouts() -> String {
         layout!(Found: kind finding begin refusal),
         layout!(Settings: p sp np adkim aspf psd t),
         layout!(RecordRead: is_record settings reports rua_begin rua_length),
+        layout!(FieldRead: refusal dkim spf),
     ]
     .concat()
 }
@@ -216,7 +219,7 @@ fn an_alignment_of_a_verdict() {
 #[test]
 fn every_function_is_in_the_archive() {
     let (mut functions, defined) = (header().functions(), header().defined());
-    assert_eq!(functions.len(), 16, "{functions:?}");
+    assert_eq!(functions.len(), 17, "{functions:?}");
     let apart = functions
         .iter()
         .filter_map(|name| name.strip_suffix("_apart"));

@@ -136,6 +136,7 @@ fn every_example_of_a_command() {
         "--json",
         "--write",
         "--read",
+        "--field",
     ] {
         let shown = examples.iter().any(|own| own.command.contains(option));
         assert!(shown, "README.md has no example of ./dmarc {option}");
@@ -210,6 +211,7 @@ const RUN: &[(&str, i32)] = &[
     ("./dmarc", 2),
     ("./dmarc --write", 1),
     ("./dmarc --read", 2),
+    ("./dmarc --field", 2),
 ];
 /// Commands that are not run, and why.
 const NOT_RUN: &[(&str, &str)] = &[

@@ -9,6 +9,7 @@
 pub mod book;
 pub mod domain;
 pub mod evaluate;
+pub mod field;
 pub mod grounds;
 pub mod message;
 pub mod policy;

@@ -1,10 +1,11 @@
-//! Policy records written and read by the proved code, held to the second
-//! evaluator, and said in words.
+//! Policy records written and read by the proved code, and fields read, held to the
+//! second evaluator, and said in words.
 
 #![forbid(unsafe_code)]
 
 pub mod agreement;
 pub mod code;
+pub mod field;
 pub mod reading;
 pub mod words;
 pub mod writing;

@@ -1,5 +1,6 @@
-//! Writes a policy record from its tags, and says what a policy record sets. The
-//! octets are the proved code's, the words the second evaluator's once both agree.
+//! Writes a policy record from its tags, says what a policy record sets, and what an
+//! Identity-Alignment field names. The octets are the proved code's, the words the
+//! second evaluator's once both agree.
 
 #![forbid(unsafe_code)]
 
@@ -7,24 +8,64 @@ use std::os::unix::ffi::OsStringExt;
 use std::process::ExitCode;
 
 use records::code::Proved;
-use records::{reading, writing};
+use records::field::code::proved;
+use records::{field, reading, writing};
 use sheets::command::{ended, input, output};
 
 const USAGE: &str = "usage:
   dmarc-records write TAG=VALUE...
-  dmarc-records read < text";
+  dmarc-records read < text
+  dmarc-records field < text
+  dmarc-records field-json < text";
+
+/// More octets than a field is read of.
+const FIELD_OCTETS: u64 = 1 << 20;
+
+/// The exit status of a refusal.
+const REFUSED: u8 = 3;
 
 fn main() -> ExitCode {
     let words = std::env::args_os().skip(1).map(OsStringExt::into_vec);
     let words: Vec<Vec<u8>> = words.collect();
     let command = words.split_first();
-    ended(
-        match command.map(|(first, rest)| (first.as_slice(), rest)) {
-            Some((b"write", tags)) => write(tags),
-            Some((b"read", [])) => read(),
-            _ => Err(USAGE.to_string()),
-        },
-    )
+    match command.map(|(first, rest)| (first.as_slice(), rest)) {
+        Some((b"write", tags)) => ended(write(tags)),
+        Some((b"read", [])) => ended(read()),
+        Some((b"field", [])) => read_field(field_lines),
+        Some((b"field-json", [])) => read_field(field_json),
+        _ => ended(Err(USAGE.to_string())),
+    }
+}
+
+/// What is told of a field that comes in, and the exit status: a refusal has its own.
+fn read_field(tell: impl Fn(&[u8]) -> Result<(), String>) -> ExitCode {
+    let text = match input(FIELD_OCTETS) {
+        Ok(text) => text,
+        Err(reason) => return ended(Err(reason)),
+    };
+    let told = tell(&text);
+    match field::refused(proved, &text) {
+        Some(_) if told.is_ok() => ExitCode::from(REFUSED),
+        _ => ended(told),
+    }
+}
+
+/// The methods that a field names; refused, `refused N at P`, and the rest on
+/// standard error.
+fn field_lines(text: &[u8]) -> Result<(), String> {
+    match (field::lines(proved, text), field::refused(proved, text)) {
+        (Err(reason), Some(refusal)) => {
+            let why = reason.strip_prefix(&format!("{refusal}: "));
+            eprintln!("{}", why.unwrap_or(&reason));
+            output(format!("{refusal}\n").as_bytes())
+        }
+        (lines, _) => output((lines?.join("\n") + "\n").as_bytes()),
+    }
+}
+
+fn field_json(text: &[u8]) -> Result<(), String> {
+    let said = field::json(proved, text)?;
+    output(format!("{said}\n").as_bytes())
 }
 
 fn write(tags: &[Vec<u8>]) -> Result<(), String> {

@@ -254,6 +254,7 @@ static waslidhaj_written written;
 static waslidhaj_found found;
 static waslidhaj_list_changed changed;
 static waslidhaj_record_read read;
+static waslidhaj_field_read read_methods;
 static size_t printed;
 static uint8_t lent[SHEET + 2 * WASLIDHAJ_PRINTED_OCTETS];
 static waslidhaj_row rows[WASLIDHAJ_ROWS + 4];
@@ -385,6 +386,15 @@ static void call_read_record(void) {
     read = waslidhaj_read_record(policies[index].octets, policies[index].length);
 }
 
+/* A good field, one of nothing but comments, and one that is refused at its end. */
+static void call_read_field(void) {
+  static const char *const fields[] = {"Identity-Alignment: dkim, spf\r\n", "Identity-Alignment: ((((((((", "Identity-Alignment: dkim, dkim"};
+  for (size_t index = 0; index < sizeof fields / sizeof *fields; index++)
+    read_methods = waslidhaj_read_field((const uint8_t *)fields[index], strlen(fields[index]));
+  memset(lent, '(', sizeof lent);
+  read_methods = waslidhaj_read_field(lent, sizeof lent);
+}
+
 /* ---- Threads ---- */
 
 typedef struct {
@@ -415,6 +425,7 @@ static const entry calls[] = {
     {"waslidhaj_write_record", call_write_record},
     {"waslidhaj_write_record overlapping", call_write_record_overlapping},
     {"waslidhaj_read_record", call_read_record},
+    {"waslidhaj_read_field", call_read_field},
 };
 
 static const uint8_t *begin; /* where the stack of a call begins; it grows downwards */

@@ -3,6 +3,7 @@
 
 mod answers;
 mod builds;
+mod fields;
 mod files;
 mod first_run;
 mod full;

@@ -1,5 +1,6 @@
-//! Tests whose expected values come from the documents: document 01, Asks 1 to 5
-//! and 8 of document 02, the agreed readings (by their point numbers) and RFC 9989.
+//! Tests whose expected values come from the documents: document 01, Asks 1 to 5,
+//! 8 and 12 of document 02, the agreed readings (by their point numbers), RFC 9989
+//! and RFC 9991.
 
 mod case;
 mod octets;
@@ -8,6 +9,7 @@ mod adding;
 mod answers;
 mod book;
 mod disposition;
+mod field_reading;
 mod final_dot;
 mod labels;
 mod opening;

@@ -6,6 +6,7 @@ mod program;
 
 mod agreeing;
 mod commands;
+mod field;
 mod numbers;
 mod reading;
 mod times;

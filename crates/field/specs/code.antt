@@ -1,0 +1,2 @@
+-- What is read, by the grammar.
+pub mod Reading

@@ -1,0 +1,2 @@
+-- How texts and faults are found.
+pub mod Finding
