@@ -34,14 +34,15 @@ extern "C" {
 /* ---- Sizes ---- */
 
 enum {
-  WASLIDHAJ_VERSION = 9,            /* of a state: another whenever its layout or its meaning changes */
-  WASLIDHAJ_DOMAIN_OCTETS = 253,    /* the most octets of a domain */
-  WASLIDHAJ_NAME_OCTETS = 260,      /* enough for the name that any state gives */
-  WASLIDHAJ_SCRATCH_OCTETS = 4096,  /* the scratch that an answer needs, and the most octets of an answer */
-  WASLIDHAJ_PRINTED_OCTETS = 36864, /* the most octets printed for a sheet */
-  WASLIDHAJ_IDENTIFIERS = 16,       /* the most identifiers of a message */
-  WASLIDHAJ_NAMES = 136,            /* the most names that a message asks */
-  WASLIDHAJ_ROWS = 256              /* the most rows of a day's list */
+  WASLIDHAJ_VERSION = 9,             /* of a state and a check: another whenever a layout or a meaning changes */
+  WASLIDHAJ_DOMAIN_OCTETS = 253,     /* the most octets of a domain */
+  WASLIDHAJ_NAME_OCTETS = 260,       /* enough for the name that any state gives */
+  WASLIDHAJ_CHECK_NAME_OCTETS = 522, /* enough for the name that any check of an address gives */
+  WASLIDHAJ_SCRATCH_OCTETS = 4096,   /* the scratch that an answer needs, and the most octets of an answer */
+  WASLIDHAJ_PRINTED_OCTETS = 36864,  /* the most octets printed for a sheet */
+  WASLIDHAJ_IDENTIFIERS = 16,        /* the most identifiers of a message */
+  WASLIDHAJ_NAMES = 136,             /* the most names that a message asks */
+  WASLIDHAJ_ROWS = 256               /* the most rows of a day's list */
 };
 
 /* ---- Stack ---- */
@@ -67,6 +68,11 @@ enum {
  *   waslidhaj_write_record     2048          6144
  *   waslidhaj_read_record     18432
  *   waslidhaj_read_field       1024
+ *   waslidhaj_check_start      8192
+ *   waslidhaj_check_next       4096
+ *   waslidhaj_check_answer    31744         36864
+ *   waslidhaj_check_result     2048
+ *   waslidhaj_check_name       3072
  *
  * Add 4,096 where a program binds memcpy at its first call. Every call fits a thread of 128 KiB, but waslidhaj_run where its
  * memory overlaps. Enough for every call but waslidhaj_run, and for that one, is: */
@@ -454,6 +460,136 @@ typedef struct {
 /* Reads a field, its name and its closing CR LF included. Refused 24 (not the grammar: at the first octet that it cannot have
  * there, or at the length), 25 (at the ninth parenthesis open at once), 26 (where a method that it named already begins). */
 waslidhaj_field_read waslidhaj_read_field(const uint8_t *text, size_t text_length);
+
+/* ---- A report address ---- */
+
+/* Whether an address outside the policy domain agreed to receive reports (RFC 9990, section 4): start a check of a rua entry for
+ * a policy domain, then in turn: next, and an answer for the name that it gives, until next gives the outcome. Without an outcome
+ * its number reads not known: do not send. After an answer's 6, go on as with a message.
+ *
+ * The host that is checked follows the last `@` of the entry. A mailer may find another one in an entry with a second `@`, a `?`,
+ * a `#` or a `%`, as in `mailto:x@victim.example?y=@own.example`: send to such an entry only if yours finds the host that was
+ * checked. */
+enum {
+  WASLIDHAJ_ADDRESS_NOT_KNOWN, /* a lookup failed: do not send, ask again later */
+  WASLIDHAJ_ADDRESS_NO,        /* it did not agree: do not send */
+  WASLIDHAJ_ADDRESS_INSIDE,    /* it is the policy domain's own, or of its organizational domain */
+  WASLIDHAJ_ADDRESS_CONFIRMED, /* it agreed */
+  WASLIDHAJ_ADDRESS_REPLACED   /* it agreed to another text alone: do not send to the entry itself */
+};
+
+enum { WASLIDHAJ_OUTCOME = WASLIDHAJ_VERDICT, WASLIDHAJ_CHECK_NAMES = 17 /* the most names that a started check asks */ };
+
+/* A check, in the caller's memory: fill it with zeros, and start it; look into none of it. Any octets get an answer. It may lie in
+ * lent memory: it is read first and written last. Kept in a file, it is of one build only (WASLIDHAJ_VERSION). */
+typedef struct {
+  uint8_t started, asked, confirmed;
+  uint8_t domains[506];
+  uint16_t numbers[2];
+  uint16_t kept[48];
+  size_t count;
+  uint8_t point_kind;
+  size_t organization;
+  uint8_t found;
+  size_t record_begin, record_settings, target_begin, target_wider, more;
+  size_t instead_begin, instead_length;
+} waslidhaj_check;
+
+/* What a call gives, by its kind. Ask: the name to ask, marked by `walk` and `place`; waslidhaj_check_name writes it out.
+ * Outcome: `agreement`, how many names were asked in `count`, and of a replaced address where the text that takes its place
+ * stands in the scratch, as the answer for the confirming name left that: `length` octets from `begin` on. Copy them before the
+ * scratch is lent again. Refused: `refusal`. What its kind does not have is 0.
+ *
+ * That text is a comma list. Every host in it that was judged is the first address's; entries that are no `mailto:` with a domain,
+ * or have a `!`, were passed over. Send to those alone for which waslidhaj_check_start is not refused 23. */
+typedef struct {
+  uint8_t kind;
+  uint8_t agreement;
+  size_t walk;
+  size_t place;
+  size_t begin;
+  size_t length;
+  size_t count;
+  waslidhaj_refusal refusal;
+} waslidhaj_check_given;
+
+/* The check to go on with, and what the call gives. */
+typedef struct {
+  waslidhaj_check check;
+  waslidhaj_check_given given;
+} waslidhaj_check_called;
+
+/* The calls, of a check by value and of lent memory that nowhere overlaps. */
+waslidhaj_check_called waslidhaj_check_start_by_value(waslidhaj_check check, const uint8_t *policy, size_t policy_length,
+                                                      const uint8_t *entry, size_t entry_length);
+waslidhaj_check_called waslidhaj_check_next_by_value(waslidhaj_check check);
+waslidhaj_check_called waslidhaj_check_answer_by_value(waslidhaj_check check, const uint8_t *name, size_t name_length,
+                                                       uint8_t status, const uint8_t *bytes, size_t bytes_length,
+                                                       uint8_t *scratch, size_t scratch_length);
+waslidhaj_check_given waslidhaj_check_result_by_value(waslidhaj_check check);
+waslidhaj_written waslidhaj_check_name_by_value(waslidhaj_check check, size_t walk, size_t place, uint8_t *out,
+                                                size_t out_length);
+
+/* A call that changed the check is of kind accepted or ask; any other leaves every octet of it. */
+static inline waslidhaj_check_given waslidhaj_check_go_on(waslidhaj_check *check, waslidhaj_check_called called) {
+  if (called.given.kind == WASLIDHAJ_ACCEPTED || called.given.kind == WASLIDHAJ_ASK)
+    *check = called.check;
+  return called.given;
+}
+
+/* Starts the check of a rua entry for a policy domain, over whatever check there was. Accepted, or refused 11 (a bad policy
+ * domain), 23 (an entry with a comma, or no valid `mailto:` with a domain after its last `@`). Refused, that check stays, with
+ * the outcome that it may have of another address. */
+static inline waslidhaj_check_given waslidhaj_check_start(waslidhaj_check *check, const uint8_t *policy, size_t policy_length,
+                                                          const uint8_t *entry, size_t entry_length) {
+  return waslidhaj_check_go_on(check,
+                               waslidhaj_check_start_by_value(*check, policy, policy_length, entry, entry_length));
+}
+
+/* The next step: ask, the outcome, or refused 7 (nothing was started). */
+static inline waslidhaj_check_given waslidhaj_check_next(waslidhaj_check *check) {
+  return waslidhaj_check_go_on(check, waslidhaj_check_next_by_value(*check));
+}
+
+/* As waslidhaj_check_answer, of copies. Refused are 5, 6 and 10, in this order: too long a name is 5, too long an answer 6. */
+static WASLIDHAJ_OWN_FRAME waslidhaj_check_called
+waslidhaj_check_answer_copied(waslidhaj_check check, const uint8_t *name, size_t name_length, uint8_t status,
+                              const uint8_t *bytes, size_t bytes_length, uint8_t *scratch, size_t scratch_length) {
+  uint8_t own_name[WASLIDHAJ_CHECK_NAME_OCTETS + 1];
+  uint8_t own_bytes[WASLIDHAJ_SCRATCH_OCTETS];
+  if (name_length > sizeof own_name || bytes_length > sizeof own_bytes)
+    return waslidhaj_check_answer_by_value(check, name, name_length, status, bytes, bytes_length, scratch, 0);
+  waslidhaj_copy(own_name, name, name_length);
+  waslidhaj_copy(own_bytes, bytes, bytes_length);
+  return waslidhaj_check_answer_by_value(check, own_name, name_length, status, own_bytes, bytes_length, scratch,
+                                         scratch_length);
+}
+
+/* An answer for the name now asked, as waslidhaj_answer takes one. Accepted, or refused 5, 6, 10. */
+static inline waslidhaj_check_given waslidhaj_check_answer(waslidhaj_check *check, const uint8_t *name, size_t name_length,
+                                                           uint8_t status, const uint8_t *bytes, size_t bytes_length,
+                                                           uint8_t *scratch, size_t scratch_length) {
+  if (status != WASLIDHAJ_RECORDS) /* the bytes are not read */
+    bytes_length = 0;
+  if (waslidhaj_overlap(name, name_length, scratch, scratch_length) ||
+      waslidhaj_overlap(bytes, bytes_length, scratch, scratch_length))
+    return waslidhaj_check_go_on(check, waslidhaj_check_answer_copied(*check, name, name_length, status, bytes, bytes_length,
+                                                                      scratch, scratch_length));
+  return waslidhaj_check_go_on(check, waslidhaj_check_answer_by_value(*check, name, name_length, status, bytes, bytes_length,
+                                                                      scratch, scratch_length));
+}
+
+/* The outcome again, or refused 7. */
+static inline waslidhaj_check_given waslidhaj_check_result(const waslidhaj_check *check) {
+  return waslidhaj_check_result_by_value(*check);
+}
+
+/* Writes the name that a walk and a place mark. WASLIDHAJ_CHECK_NAME_OCTETS are enough for any check, walk and place; the names
+ * of a check that was started have 253 octets at the most. Refused 10. */
+static inline waslidhaj_written waslidhaj_check_name(const waslidhaj_check *check, size_t walk, size_t place, uint8_t *out,
+                                                     size_t out_length) {
+  return waslidhaj_check_name_by_value(*check, walk, place, out, out_length);
+}
 
 #ifdef __cplusplus
 }

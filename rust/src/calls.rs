@@ -169,3 +169,58 @@ pub fn read_field(text: &[u8]) -> FieldRead {
     // SAFETY: the text is lent by its pointer and length.
     unsafe { waslidhaj_read_field(text.as_ptr(), text.len()) }
 }
+
+/// Starts the check of a rua entry for a policy domain. Accepted, or refused 11, 23.
+pub fn check_start(check: Check, policy: &[u8], entry: &[u8]) -> CheckCalled {
+    // SAFETY: both slices are lent by pointer and length.
+    unsafe {
+        waslidhaj_check_start_by_value(
+            check,
+            policy.as_ptr(),
+            policy.len(),
+            entry.as_ptr(),
+            entry.len(),
+        )
+    }
+}
+
+/// The next step of a check: a name to ask, the outcome, or refused 7.
+pub fn check_next(check: Check) -> CheckCalled {
+    // SAFETY: values alone.
+    unsafe { waslidhaj_check_next_by_value(check) }
+}
+
+/// An answer for the name that a check now asks. Accepted, or refused 5, 6, 10.
+pub fn check_answer(
+    check: Check,
+    name: &[u8],
+    status: u8,
+    bytes: &[u8],
+    scratch: &mut [u8],
+) -> CheckCalled {
+    // SAFETY: each slice is lent by its pointer and length.
+    unsafe {
+        waslidhaj_check_answer_by_value(
+            check,
+            name.as_ptr(),
+            name.len(),
+            status,
+            bytes.as_ptr(),
+            bytes.len(),
+            scratch.as_mut_ptr(),
+            scratch.len(),
+        )
+    }
+}
+
+/// The outcome of a check again, or refused 7.
+pub fn check_result(check: Check) -> CheckGiven {
+    // SAFETY: values alone.
+    unsafe { waslidhaj_check_result_by_value(check) }
+}
+
+/// Writes the name that a walk and a place mark in a check, or refused 10.
+pub fn check_name(check: Check, walk: usize, place: usize, out: &mut [u8]) -> Written {
+    // SAFETY: the output is lent by its pointer and length.
+    unsafe { waslidhaj_check_name_by_value(check, walk, place, out.as_mut_ptr(), out.len()) }
+}

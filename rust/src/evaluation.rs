@@ -9,7 +9,7 @@ use crate::raw::{self, Called, Given, State};
 use crate::refusal::Refusal;
 use crate::rows::Finding;
 use crate::verdict::Verdict;
-use crate::{IDENTIFIERS, NAME_OCTETS};
+use crate::IDENTIFIERS;
 
 /// An evaluation between two calls: a value that can be copied and kept.
 #[derive(Clone, Copy, Debug, PartialEq, Eq)]
@@ -18,6 +18,7 @@ pub struct Evaluation {
 }
 
 /// The next step.
+#[allow(clippy::large_enum_variant)] // A name is a plain value.
 #[derive(Clone, Debug, PartialEq, Eq)]
 pub enum Step {
     /// Look up the TXT records of this name.
@@ -121,7 +122,7 @@ impl Evaluation {
     /// included, and gives its length. Refused 7, 9, 10.
     pub fn field(&self, out: &mut [u8]) -> Result<usize, Refusal> {
         let given = calls::field(self.state, out);
-        accepted(&given).map(|()| given.length)
+        Refusal::unless_accepted(given.kind, given.refusal).map(|()| given.length)
     }
 
     /// What is entered in a day's list, once there is a verdict. Refused 7.
@@ -146,19 +147,15 @@ impl Evaluation {
     /// Goes on with what a call gives, which is what it was where it is refused.
     fn accept(&mut self, called: Called) -> Result<(), Refusal> {
         self.state = called.state;
-        accepted(&called.given)
+        Refusal::unless_accepted(called.given.kind, called.given.refusal)
     }
 
     fn name(&self, walk: usize, place: usize) -> Name {
-        let mut out = [0; NAME_OCTETS];
-        let written = calls::name(self.state, walk, place, &mut out);
-        Name::of(out, written.length)
+        Name::of(|out| calls::name(self.state, walk, place, out))
     }
 
     fn domain(&self, begin: usize) -> String {
-        let mut out = [0; NAME_OCTETS];
-        let written = calls::domain(self.state, begin, &mut out);
-        Name::of(out, written.length).to_string()
+        Name::of(|out| calls::domain(self.state, begin, out)).to_string()
     }
 
     fn verdict(&self, given: &Given) -> Result<Verdict, Refusal> {
@@ -183,12 +180,5 @@ impl Evaluation {
 impl Default for Evaluation {
     fn default() -> Evaluation {
         Evaluation::EMPTY
-    }
-}
-
-fn accepted(given: &Given) -> Result<(), Refusal> {
-    match given.kind {
-        raw::ACCEPTED => Ok(()),
-        _ => Err(given.refusal.into()),
     }
 }

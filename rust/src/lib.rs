@@ -63,14 +63,15 @@
 //! leaves the evaluation and lent memory as they were.
 //!
 //! Beside evaluations there are [`DayList`] (a day's verdicts, gathered in rows),
-//! [`FileName`] (of a report), [`policy`] (policy records written and read),
-//! [`read_field`] (an Identity-Alignment field) and [`run`] (a whole message from a
-//! sheet). [`calls`] and [`raw`] have the C
-//! interface itself.
+//! [`FileName`] (of a report), [`AddressCheck`] (whether a report address agreed),
+//! [`policy`] (policy records written and read), [`read_field`] (an
+//! Identity-Alignment field) and [`run`] (a whole message from a sheet). [`calls`] and
+//! [`raw`] have the C interface itself.
 
 #![deny(unsafe_code)]
 #![warn(missing_docs)]
 
+mod address;
 mod answer;
 #[allow(unsafe_code)]
 pub mod calls;
@@ -86,6 +87,7 @@ mod rows;
 mod sheet;
 mod verdict;
 
+pub use address::{AddressCheck, AddressOutcome, AddressStep, Agreement};
 pub use answer::{records, Answer};
 pub use evaluation::{Evaluation, Step};
 pub use field::{read_field, Methods};
@@ -107,12 +109,16 @@ pub const VERSION: usize = 9;
 pub const DOMAIN_OCTETS: usize = 253;
 /// Enough for the name that any state gives.
 pub const NAME_OCTETS: usize = 260;
+/// Enough for the name that any check of an address gives.
+pub const CHECK_NAME_OCTETS: usize = 522;
 /// The scratch that an answer needs.
 pub const SCRATCH_OCTETS: usize = 4096;
 /// The most identifiers of a message.
 pub const IDENTIFIERS: usize = 16;
 /// The most names that a message asks.
 pub const NAMES: usize = 136;
+/// The most names that a check of an address asks.
+pub const CHECK_NAMES: usize = 17;
 /// The most rows of a day's list.
 pub const ROWS: usize = 256;
 /// The stack that is enough for every call of the C interface but `run`. Copies of

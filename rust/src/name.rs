@@ -2,19 +2,21 @@
 
 use std::fmt;
 
-use crate::NAME_OCTETS;
+use crate::raw::Written;
+use crate::CHECK_NAME_OCTETS;
 
-/// A name to ask for its TXT records, `_dmarc.` included, in lower case.
+/// A name to ask for its TXT records, in lower case, as `_dmarc.example.com`.
 #[derive(Clone, Copy, PartialEq, Eq)]
 pub struct Name {
-    octets: [u8; NAME_OCTETS],
+    octets: [u8; CHECK_NAME_OCTETS],
     length: usize,
 }
 
 impl Name {
-    /// The first so many of these octets.
-    pub(crate) fn of(octets: [u8; NAME_OCTETS], length: usize) -> Name {
-        let length = length.min(NAME_OCTETS);
+    /// What a writer writes; nothing where it is refused.
+    pub(crate) fn of(write: impl FnOnce(&mut [u8]) -> Written) -> Name {
+        let mut octets = [0; CHECK_NAME_OCTETS];
+        let length = write(&mut octets).length.min(CHECK_NAME_OCTETS);
         Name { octets, length }
     }
 
@@ -23,8 +25,8 @@ impl Name {
         &self.octets[..self.length]
     }
 
-    /// Its text. It is empty where the octets are none, as only those of a state
-    /// that no call gave can be.
+    /// Its text. It is empty where the octets are none, as only those of a state or
+    /// a check that no call gave can be.
     pub fn as_str(&self) -> &str {
         std::str::from_utf8(self.as_bytes()).unwrap_or_default()
     }

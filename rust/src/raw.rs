@@ -2,8 +2,8 @@
 //!
 //! A flag is a `bool` here where the header says that it is 0 or 1: no other
 //! octet can be handed in. The functions are called by [`crate::calls`] alone,
-//! those with memory to write by their names `.._apart`: what is lent in Rust
-//! overlaps nowhere.
+//! those with memory to write by their names `.._apart` and `.._by_value`: what is
+//! lent in Rust overlaps nowhere.
 
 /// A refusal: its number and its place. Number 0 is no refusal.
 #[repr(C)]
@@ -64,6 +64,8 @@ pub const ACCEPTED: u8 = 0;
 pub const ASK: u8 = 1;
 /// A kind of what a call gives: the verdict.
 pub const VERDICT: u8 = 2;
+/// The same of a check: the outcome.
+pub const OUTCOME: u8 = VERDICT;
 /// A kind of what a call gives: refused.
 pub const REFUSED: u8 = 3;
 
@@ -285,10 +287,105 @@ pub struct FieldRead {
     pub spf: u8,
 }
 
+/// Of a check's outcome: a lookup failed.
+pub const ADDRESS_NOT_KNOWN: u8 = 0;
+/// Of a check's outcome: it did not agree.
+pub const ADDRESS_NO: u8 = 1;
+/// Of a check's outcome: it is inside.
+pub const ADDRESS_INSIDE: u8 = 2;
+/// Of a check's outcome: it agreed.
+pub const ADDRESS_CONFIRMED: u8 = 3;
+/// Of a check's outcome: it agreed, and another text takes its place.
+pub const ADDRESS_REPLACED: u8 = 4;
+
+/// The check of a report address between two calls. Its fields are the proved
+/// code's alone; any octets in them get an answer.
+#[allow(missing_docs)]
+#[repr(C)]
+#[derive(Clone, Copy, Debug, PartialEq, Eq)]
+pub struct Check {
+    pub started: u8,
+    pub asked: u8,
+    pub confirmed: u8,
+    pub domains: [u8; 506],
+    pub numbers: [u16; 2],
+    pub kept: [u16; 48],
+    pub count: usize,
+    pub point_kind: u8,
+    pub organization: usize,
+    pub found: u8,
+    pub record_begin: usize,
+    pub record_settings: usize,
+    pub target_begin: usize,
+    pub target_wider: usize,
+    pub more: usize,
+    pub instead_begin: usize,
+    pub instead_length: usize,
+}
+
+impl Check {
+    /// A check of zeros: nothing is started.
+    pub const ZEROS: Check = Check {
+        started: 0,
+        asked: 0,
+        confirmed: 0,
+        domains: [0; 506],
+        numbers: [0; 2],
+        kept: [0; 48],
+        count: 0,
+        point_kind: 0,
+        organization: 0,
+        found: 0,
+        record_begin: 0,
+        record_settings: 0,
+        target_begin: 0,
+        target_wider: 0,
+        more: 0,
+        instead_begin: 0,
+        instead_length: 0,
+    };
+}
+
+/// What a call of a check gives, by its kind; what its kind does not have is 0,
+/// which of an agreement is not known.
+#[repr(C)]
+#[derive(Clone, Copy, Debug, Default, PartialEq, Eq)]
+pub struct CheckGiven {
+    /// [`ACCEPTED`], [`ASK`], [`OUTCOME`] or [`REFUSED`].
+    pub kind: u8,
+    /// Of the outcome: [`ADDRESS_NOT_KNOWN`] to [`ADDRESS_REPLACED`].
+    pub agreement: u8,
+    /// Of a name to ask: the walk that looks at it first, or 2 for the confirming
+    /// name.
+    pub walk: usize,
+    /// Of a name to ask: where its target begins in that walk's domain.
+    pub place: usize,
+    /// Of a replaced address: where the text that takes its place begins in the
+    /// scratch.
+    pub begin: usize,
+    /// Of a replaced address: how many octets that text has.
+    pub length: usize,
+    /// Of the outcome: how many names were asked.
+    pub count: usize,
+    /// The refusal.
+    pub refusal: Refusal,
+}
+
+/// The check to go on with, and what the call gives.
+#[repr(C)]
+#[derive(Clone, Copy, Debug, PartialEq, Eq)]
+pub struct CheckCalled {
+    /// The check to go on with.
+    pub check: Check,
+    /// What the call gives.
+    pub given: CheckGiven,
+}
+
 #[cfg(target_pointer_width = "64")]
 const _: () = {
     assert!(size_of::<State>() == 5352);
     assert!(size_of::<Row>() == 24);
+    assert!(size_of::<Check>() == 704);
 };
 
 extern "C" {
@@ -393,4 +490,35 @@ extern "C" {
     pub(crate) fn waslidhaj_read_record(text: *const u8, text_length: usize) -> RecordRead;
 
     pub(crate) fn waslidhaj_read_field(text: *const u8, text_length: usize) -> FieldRead;
+
+    pub(crate) fn waslidhaj_check_start_by_value(
+        check: Check,
+        policy: *const u8,
+        policy_length: usize,
+        entry: *const u8,
+        entry_length: usize,
+    ) -> CheckCalled;
+
+    pub(crate) fn waslidhaj_check_next_by_value(check: Check) -> CheckCalled;
+
+    pub(crate) fn waslidhaj_check_answer_by_value(
+        check: Check,
+        name: *const u8,
+        name_length: usize,
+        status: u8,
+        bytes: *const u8,
+        bytes_length: usize,
+        scratch: *mut u8,
+        scratch_length: usize,
+    ) -> CheckCalled;
+
+    pub(crate) fn waslidhaj_check_result_by_value(check: Check) -> CheckGiven;
+
+    pub(crate) fn waslidhaj_check_name_by_value(
+        check: Check,
+        walk: usize,
+        place: usize,
+        out: *mut u8,
+        out_length: usize,
+    ) -> Written;
 }

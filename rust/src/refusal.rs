@@ -22,7 +22,7 @@ const MEANINGS: &[(u8, &str)] = &[
     (4, "a 17th identifier, or a second SPF"),
     (5, "an answer for a name that is not now asked"),
     (6, "an answer over a limit or unreadable"),
-    (7, "nothing was opened, or there is no verdict yet"),
+    (7, "nothing was begun, or there is no verdict yet"),
     (8, "a broken sheet, or one name answered twice"),
     (9, "the result has no field, or no identifier was given"),
     (10, "the lent memory is too short"),
@@ -33,6 +33,7 @@ const MEANINGS: &[(u8, &str)] = &[
     (15, "p is absent, or a policy setting is invalid"),
     (16, "a rua text that cannot be written"),
     (17, "too late for an identifier, or nothing was opened"),
+    (23, "no valid mailto: with a domain, or a comma"),
     (24, "not the grammar of the field"),
     (25, "a ninth comment within comments"),
     (26, "a method that the field names already"),
@@ -44,6 +45,14 @@ impl Refusal {
     pub fn meaning(&self) -> &'static str {
         let row = MEANINGS.iter().find(|(number, _)| *number == self.number);
         row.map_or("no number of a refusal", |(_, meaning)| meaning)
+    }
+
+    /// Nothing where a call is of kind accepted, or its refusal.
+    pub(crate) fn unless_accepted(kind: u8, refusal: raw::Refusal) -> Result<(), Refusal> {
+        match kind {
+            raw::ACCEPTED => Ok(()),
+            _ => Err(refusal.into()),
+        }
     }
 
     /// Nothing, or the refusal; number 0 is none.

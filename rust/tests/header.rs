@@ -23,6 +23,9 @@ const STRUCTS: &[(&str, &str)] = &[
     ("waslidhaj_settings", "Settings"),
     ("waslidhaj_record_read", "RecordRead"),
     ("waslidhaj_field_read", "FieldRead"),
+    ("waslidhaj_check", "Check"),
+    ("waslidhaj_check_given", "CheckGiven"),
+    ("waslidhaj_check_called", "CheckCalled"),
 ];
 
 /// The name of a type in Rust. A flag is a `bool` here.
@@ -107,7 +110,7 @@ fn the_functions_are_the_same() {
     let prototypes = prototypes.filter(|line| !line.starts_with("static "));
     let in_c: BTreeSet<String> = prototypes.flat_map(|line| names(line, " ")).collect();
     assert_eq!(here, in_c);
-    assert_eq!(here.len(), 17);
+    assert_eq!(here.len(), 22);
 }
 
 /// A number of the header by its name.
@@ -123,6 +126,9 @@ fn number_in_c(name: &str) -> usize {
 fn the_sizes_are_the_same() {
     assert_eq!(number_in_c("VERSION"), waslidhaj::VERSION);
     assert_eq!(number_in_c("NAME_OCTETS"), waslidhaj::NAME_OCTETS);
+    let check_name = waslidhaj::CHECK_NAME_OCTETS;
+    assert_eq!(number_in_c("CHECK_NAME_OCTETS"), check_name);
+    assert_eq!(number_in_c("CHECK_NAMES"), waslidhaj::CHECK_NAMES);
     assert_eq!(number_in_c("STACK_OCTETS"), waslidhaj::STACK_OCTETS);
     assert_eq!(number_in_c("RUN_STACK_OCTETS"), waslidhaj::RUN_STACK_OCTETS);
 }

@@ -3,9 +3,10 @@ use mathlib.Core.Path.{_≡_, refl, ap}
 use mathlib.Core.List.{List, _∷_}
 use Prim.Native.Nat.{ℕ, zero, suc, _+_, _*_, _-_, _≤_, _<_, min}
 use native.Mathlib.Omega.{arith}
-use lib.ListN.{length, drop, getD, length-take, List·getD-eq-default}
+use lib.ListN.{length, take, drop, getD, length-take, List·getD-eq-default}
 use borrow.Author.Tests.{le-leb, lt-leb}
-use Rattle.octets.specs.Octets.{Octets, part-of}
+use Rattle.octets.specs.Octets.{Octets, part-of, lower}
+use Rattle.octets.proofs.TextLaws.{lower-length}
 use Rattle.alignment.specs.declared.Kind.{Kind}
 use Rattle.alignment.specs.declared.Outcome.{Outcome}
 use Rattle.alignment_stored.specs.code.Stored.{number-at, slot, kind-in, outcome-in, identifier-at, stored-identifiers}
@@ -63,3 +64,9 @@ pub identifiers-length : (domains : Octets) (numbers : List ℕ) (walk count : �
 unfolding stored-identifiers
 identifiers-length domains numbers walk zero = refl
 identifiers-length domains numbers walk (suc n) = ap suc (identifiers-length domains numbers (walk + 1) n)
+
+-- the slot of a walk is a text in lower case, by its length and its octets
+pub slot-of : (domains text : Octets) (numbers : List ℕ) (walk : ℕ) → length text ≤ 253 → number-at numbers 0 walk ≡ length text
+    → take (length (lower text)) (drop (253 * walk) domains) ≡ lower text → slot domains numbers walk ≡ lower text
+unfolding slot
+slot-of domains text numbers walk h e f = let g : min (length text) 253 ≡ length (lower text) = omega (arith, lower-length text) in rw (e, g) f

@@ -2,3 +2,4 @@
 pub mod Computing
 pub mod Completing
 pub mod AskingLaws
+pub mod ReplyLaws

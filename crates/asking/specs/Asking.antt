@@ -1,5 +1,5 @@
 -- A run by calls: a lookup program, asked and answered name by name (document 01, "Demand 3's book ..").
-use mathlib.Core.List.{List, [], _∷_, _++_}
+use mathlib.Core.List.{List, [], _∷_, _++_, map}
 use mathlib.Core.Option.{Option, none as nothing, some as just}
 use Prim.Native.Nat.{ℕ}
 use lib.Dec.{leb}
@@ -9,7 +9,8 @@ use Rattle.octets.specs.Refusing.{refusal}
 use Rattle.octets.specs.declared.Refusal.{Refusal}
 use Rattle.lookup.specs.Lookup.{Name, Lookups, Answers, names, Standing, needs, has, run-over}
 use Rattle.domain.specs.Domain.{without-dot}
-use Rattle.txt.specs.Answers.{Answer, texts, scratch-after}
+use Rattle.txt.specs.declared.Reply.{Reply}
+use Rattle.txt.specs.Answers.{Answer, texts, reply, scratch-after}
 
 -- ------------------------------------------------------------------ what a call gives
 
@@ -92,6 +93,10 @@ take-asked s name a r scratch (just n) =
 -- an answer, and what is kept of it
 unfoldable pub take : {R A : Type 0} → Asking R → (name : Octets) → Answer → R → (scratch : Octets) → Asking R × Given A
 take s name a r scratch = take-asked s name a r scratch (s .asked)
+
+-- accepted answers, each read
+unfoldable pub replies : Answers Answer → Answers Reply
+replies β = map (λ p. (p .0, reply (p .1))) β
 
 -- ------------------------------------------------------------------ result
 

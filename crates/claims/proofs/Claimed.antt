@@ -48,6 +48,11 @@ use Rattle.sheet.proofs.Dotted.{dotted-sheets}
 use Rattle.rows.proofs.JudgedExactly.{judged-exactly}
 use Rattle.rows.proofs.ServesNamed.{serves-named}
 use Rattle.rows_day.proofs.Claimed.{day-claims}
+use Rattle.address.proofs.NameLaws.{names-of-check}
+use Rattle.address.proofs.CheckLaws.{check-claimed}
+use Rattle.address.proofs.Marked.{marked-checks, marked-answers, marked-hosts}
+use Rattle.address_place.proofs.Claimed.{answer-claims}
+use Rattle.address_check.proofs.Claimed.{check-demand-3}
 use Rattle.evaluation.specs.Promises.{changing, Changes, opened-view}
 use Rattle.evaluation.specs.MendedRuns.{RunsMended}
 use Rattle.evaluation.specs.StoredAfter.{RunsStore, SameMessage}
@@ -62,6 +67,7 @@ use Rattle.evaluation_numbers.proofs.Claimed.{by-numbers}
 use Rattle.claims.specs.Rules.{RulesHold}
 use Rattle.claims.specs.Verdicts.{VerdictsHold}
 use Rattle.claims.specs.Runs.{RunHolds}
+use Rattle.claims.specs.Addresses.{AddressesHold}
 use Rattle.claims.specs.Calls.{Defers, BookHolds, CallsHold}
 use Rattle.claims.specs.Requests.{RowsHold, RecordsHold, DotsHold, ErrorsHold, FieldsHold, RequestsHold}
 use Rattle.claims.specs.Delivered.{Delivered}
@@ -211,6 +217,39 @@ fields-hold = record {
   fields-read = fields-read;
 }
 
+addresses-hold : AddressesHold
+addresses-hold = record {
+  names-of-checks = λ p h α. record {
+    inside-exactly = names-of-check p h α .exactly-inside;
+    equal-domains-ask-nothing = names-of-check p h α .nothing-asked;
+    seventeen-names = names-of-check p h α .at-most-17;
+    confirming-last = names-of-check p h α .last;
+    confirming-exactly = names-of-check p h α .asked-exactly;
+    too-long-is-no = names-of-check p h α .too-long;
+    outcome-by-the-answer = names-of-check p h α .by-the-answer;
+    policy-domain-first = names-of-check p h α .policy-first;
+    not-known-exactly = names-of-check p h α .not-known-exactly;
+  };
+  calls-of-checks = λ cs. record {
+    names-of-the-check = check-claimed .calls cs .asked;
+    check-run = λ c e. run-holds _ _ (check-claimed .calls cs .of-its-run c e);
+    seventeen-asked = check-claimed .calls cs .at-most-17;
+    confirming-last-so-far = check-claimed .calls cs .last;
+    after-an-error = check-claimed .calls cs .after-an-error;
+    refused-check-call-stands = check-claimed .calls cs .refused-stands;
+  };
+  first-host-decides = answer-claims .first-decides;
+  record-confirms = answer-claims .record-or-no;
+  in-the-scratch = answer-claims .in-the-scratch;
+  checks-as-the-book = check-demand-3 .after-a-start;
+  before-a-start = check-demand-3 .before-a-start;
+  check-stands = check-demand-3 .stands;
+  not-known-else = check-demand-3 .not-known-else;
+  marked-checks = marked-checks;
+  marked-answers = marked-answers;
+  marked-hosts = marked-hosts;
+}
+
 requests-hold : RequestsHold
 unfolding RunsStore AsTheSingleStart SameState
 requests-hold = record {
@@ -225,6 +264,7 @@ requests-hold = record {
   same-state = same-state;
   adding-calls = adding-calls;
   read-fields = fields-hold;
+  outside-addresses = addresses-hold;
 }
 
 pub delivered : Delivered

@@ -3,5 +3,6 @@ pub mod Rules
 pub mod Verdicts
 pub mod Runs
 pub mod Calls
+pub mod Addresses
 pub mod Requests
 pub mod Delivered

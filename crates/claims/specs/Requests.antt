@@ -34,7 +34,7 @@ use Rattle.field.specs.code.Reading.{read-field}
 use Rattle.txt.specs.declared.Reply.{Reply}
 use Rattle.txt.specs.declared.Status.{Status}
 use Rattle.txt.specs.Answers.{Answer}
-use Rattle.asking.specs.Asking.{standing, asked-names}
+use Rattle.asking.specs.Asking.{standing, asked-names, replies}
 use Rattle.verdict.specs.declared.Result.{Result}
 use Rattle.verdict.specs.Message.{Message}
 use Rattle.verdict.specs.Verdict.{Verdict, evaluate, separate-walks}
@@ -61,11 +61,12 @@ use Rattle.evaluation.specs.declared.Changed.{Changed}
 use Rattle.evaluation.specs.Promises.{Changes, opened-view}
 use Rattle.evaluation.specs.GivenBack.{message-now}
 use Rattle.evaluation.specs.MendedRuns.{Judged}
-use Rattle.evaluation.specs.StoredAfter.{replies, Left}
+use Rattle.evaluation.specs.StoredAfter.{Left}
 use Rattle.evaluation_finding.specs.declared.Found.{Found}
 use Rattle.evaluation_finding.specs.code.Entering.{Finds}
 use Rattle.evaluation_finding.specs.FoundRead.{found-in}
 use Rattle.evaluation_finding.specs.FoundAfter.{finding-by}
+use Rattle.claims.specs.Addresses.{AddressesHold}
 
 -- ------------------------------------------------------------------ Ask 1: daily rows
 
@@ -204,3 +205,4 @@ pub record RequestsHold : Type 0 where
       → book-after m (map add (g .identifiers)) ≡ opened n
   pub adding-calls : AddingCalls
   pub read-fields : FieldsHold
+  pub outside-addresses : AddressesHold

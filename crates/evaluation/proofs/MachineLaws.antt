@@ -17,10 +17,11 @@ use Rattle.lookup.proofs.ReadingLaws.{run-reading}
 use Rattle.domain.specs.Domain.{without-dot}
 use Rattle.txt.specs.Answers.{Answer, lookup-error, answer-of, texts, reply, scratch-after}
 use Rattle.txt.specs.Taking.{taken, left-after}
-use Rattle.asking.specs.Asking.{verdict, accepted, refused, Given, given, Asking, begun, with-asked, kept, standing, count, next-by as book-next-by, next-step, take-texts, take-asked, take, result-by, result-of, transcript, leaves}
+use Rattle.asking.specs.Asking.{verdict, accepted, refused, Given, given, Asking, begun, with-asked, kept, standing, count, next-by as book-next-by, next-step, take-texts, take-asked, take, result-by, result-of, replies, transcript, leaves}
 use Rattle.asking.specs.Claims.{AskingClaims, AskingClaimed}
 use Rattle.asking.proofs.Completing.{completed, completes}
 use Rattle.asking.proofs.AskingLaws.{held, asking-claimed}
+use Rattle.asking.proofs.ReplyLaws.{replies-append, length-replies, run-replies}
 use Rattle.verdict.specs.Message.{Message}
 use Rattle.verdict.specs.Verdict.{Verdict, evaluate, separate-walks}
 use Rattle.verdict_cursor.specs.code.Cursor.{Cursor, answered-on, stands}
@@ -37,31 +38,15 @@ use Rattle.evaluation.specs.code.View.{view}
 use Rattle.evaluation.specs.Promises.{Does}
 use Rattle.evaluation.specs.code.Showing.{shows, Beside, Shows}
 use Rattle.evaluation.specs.Demand3.{Ran}
-use Rattle.evaluation.specs.StoredAfter.{replies, Left}
+use Rattle.evaluation.specs.StoredAfter.{Left}
 use Rattle.evaluation.proofs.SoundLaws.{list-short}
 
 -- ------------------------------------------------------------------ the replies of a book's answers
 
--- the reply for a name is the answer for it, read
-find-replies : (β : Answers Answer) (n : Name) → find (replies β) n ≡ Option·map reply (find β n)
-unfolding replies find
-find-replies [] n = refl
-find-replies (p ∷ β) n =
-    elim (same n (p .0)) as (λ t. (if t then just (reply (p .1)) else find (replies β) n) ≡ Option·map reply (if t then just (p .1) else find β n)) [
-      | true ↦ refl
-      | false ↦ find-replies β n
-    ]
-
--- there are as many replies as names answered
-length-replies : (β : Answers Answer) → length (replies β) ≡ length (names β)
-unfolding replies names
-length-replies [] = refl
-length-replies (p ∷ β) = ap suc (length-replies β)
-
 -- one more
 replies-kept : (s : Asking Answer) (n : Name) (a : Answer) → replies (kept s n a .taken) ≡ replies (s .taken) ++ ((n, reply a) ∷ [])
 unfolding replies kept
-replies-kept s n a = map-append (λ p. (p .0, reply (p .1))) (s .taken) ((n, a) ∷ [])
+replies-kept s n a = replies-append (s .taken) ((n, a) ∷ [])
 
 -- ------------------------------------------------------------------ where it stands
 
@@ -78,8 +63,7 @@ module _ (b : Book) (κ : Kept b) where
   -- the book stands where a to f stand over its replies
   standing-read : standing (walks b) (b .run) ≡ run-over (replies (b .run .taken)) (evaluate (b .message))
   unfolding standing walks run-over separate-walks
-  standing-read =
-      run-reading reply (find (b .run .taken)) (evaluate (b .message)) ∙ sym (run-same (find (replies (b .run .taken))) _ (find-replies (b .run .taken)) (evaluate (b .message)))
+  standing-read = run-replies (b .run .taken) (evaluate (b .message))
 
   -- until a name is handed out, one is needed
   waits-first : b .handed-out ≡ false → (n : Name) × (standing (walks b) (b .run) ≡ needs n)

@@ -9,7 +9,7 @@ use Rattle.domain.specs.Domain.{is-domain}
 use Rattle.verdict.specs.Message.{Message}
 use Rattle.verdict.specs.Stored.{once-ended, numbers-stored}
 use Rattle.verdict_cursor.specs.code.Cursor.{Cursor}
-use Rattle.asking.specs.Asking.{Asking, begun}
+use Rattle.asking.specs.Asking.{Asking, begun, replies}
 use Rattle.txt.specs.Answers.{Answer}
 use Rattle.book.specs.Start.{Opened}
 use Rattle.book.specs.Book.{Call, Book}
@@ -21,7 +21,7 @@ use Rattle.evaluation.specs.code.Machine.{Keeps}
 use Rattle.evaluation.specs.code.View.{numbers-kept, Numbered}
 use Rattle.evaluation.specs.Promises.{Changes, opened-view}
 use Rattle.evaluation.specs.code.Showing.{shows, Beside}
-use Rattle.evaluation.specs.StoredAfter.{replies, Left, RunsStore}
+use Rattle.evaluation.specs.StoredAfter.{Left, RunsStore}
 use Rattle.evaluation.proofs.MachineLaws.{left-as-the-book}
 
 -- each call keeps to the numbers of what is kept

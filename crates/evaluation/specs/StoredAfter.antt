@@ -1,17 +1,14 @@
 -- What an evaluation's calls store of organizational domains (document 02, Ask 7).
 use mathlib.Core.Path.{_≡_}
-use mathlib.Core.List.{List, [], _∷_, map}
+use mathlib.Core.List.{List, [], _∷_}
 use Prim.Native.Nat.{ℕ}
 use lib.ListN.{getD}
 use Rattle.octets.specs.Octets.{Octets}
 use Rattle.octets.specs.Refusing.{ok}
-use Rattle.lookup.specs.Lookup.{Answers}
-use Rattle.txt.specs.declared.Reply.{Reply}
-use Rattle.txt.specs.Answers.{Answer, reply}
 use Rattle.verdict.specs.Message.{Message}
 use Rattle.verdict.specs.Verdict.{Verdict}
 use Rattle.verdict.specs.Stored.{numbers-stored}
-use Rattle.asking.specs.Asking.{Given}
+use Rattle.asking.specs.Asking.{Given, replies}
 use Rattle.book.specs.Start.{opening}
 use Rattle.book.specs.Book.{Call}
 use Rattle.book.specs.BookClaims.{book-after}
@@ -19,10 +16,6 @@ use Rattle.evaluation.specs.declared.Evaluation.{Evaluation}
 use Rattle.evaluation.specs.declared.Changed.{Changed}
 use Rattle.evaluation.specs.GivenBack.{message-now}
 use Rattle.evaluation.specs.Promises.{Does, Changes, opened-view}
-
--- accepted answers, each read
-unfoldable pub replies : Answers Answer → Answers Reply
-replies β = map (λ p. (p .0, reply (p .1))) β
 
 -- calls one after the other, each of which does what its contract promises, and the evaluation that they leave
 pub data Left : (before : Evaluation) → List Call → (after : Evaluation) → Type 0 where

@@ -15,7 +15,7 @@ pub fn accept(e: Evaluation, walk: usize, place: Octet, r: Reply) -> Evaluation
         return e;
     }
     let mut kept = e.kept;
-    evaluation_keep::keep_reply(&e.domains, &e.numbers, walk, place, r, e.count, &mut kept);
+    walk_keep::keep_reply(&e.domains, &e.numbers, walk, place, r, e.count, &mut kept);
     let count = e.count + 1;
     let terms = e.terms;
     let stood = e.position;

@@ -1,6 +1,6 @@
 // What calls give, as numbers for programs in other languages.
 ghost use mathlib.Core.Path.{_≡_};
-ghost use Rattle.evaluation_numbers.specs.Numbers.{status-in, policy-number, verdict-numbers, accepted-numbers, ask-numbers, judged-numbers, refused-numbers, acceptance-numbers, step-numbers, resulting-numbers, field-numbers, found-numbers};
+ghost use Rattle.evaluation_numbers.specs.Numbers.{policy-number, verdict-numbers, accepted-numbers, ask-numbers, judged-numbers, refused-numbers, acceptance-numbers, step-numbers, resulting-numbers, field-numbers, found-numbers};
 use domain::Octet;
 use evaluation::Acceptance;
 use evaluation::Resulting;
@@ -13,19 +13,7 @@ use evaluation_numbers::VerdictNumbers;
 use octets::Refusal;
 use octets::Written;
 use rows::Finding;
-use txt::Status;
 use verdict::AppliedPolicy;
-
-// The status of an answer: one that is not listed is an error.
-pub fn read_status(n: u8) -> Status
-    ensures { λ r. ⌜ r ≡ status-in n ⌝ }
-{
-    match n {
-        0 => Status::Records,
-        1 => Status::NoRecords,
-        _ => Status::Error,
-    }
-}
 
 // The number of an applied record's policy.
 fn number_applied(p: AppliedPolicy) -> u8

@@ -1,21 +1,22 @@
 // An evaluation as the numbers that are lent to programs in other languages, and back.
 ghost use mathlib.Core.Path.{_≡_};
 ghost use Rattle.evaluation_open.specs.code.Opening.{existence-in};
-ghost use Rattle.evaluation_numbers.specs.Numbers.{yes, place-kind-in, held-of};
+ghost use Rattle.octets.specs.Octets.{is-set};
+ghost use Rattle.evaluation_numbers.specs.Numbers.{place-kind-in, held-of};
 ghost use Rattle.evaluation_lent.specs.code.Going.{GoesOn};
 use evaluation::Evaluation;
 use evaluation_numbers::Called;
 use evaluation_numbers::GivenNumbers;
 use evaluation_numbers::State;
 use verdict::Existence;
-use verdict_cursor::KeptStop;
 use verdict_cursor::PlaceKind;
 use verdict_cursor::Position;
 use verdict_judgement::Terms;
+use walk_stop::KeptStop;
 
 // The number of a flag.
 fn flag_number(b: bool) -> u8
-    ensures { λ r. ⌜ yes r ≡ b ⌝ }
+    ensures { λ r. ⌜ is-set r ≡ b ⌝ }
 {
     if b {
         return 1;
@@ -79,7 +80,7 @@ fn read_position(s: State) -> Position
         ruling,
         walk: s.walk,
         stop: KeptStop {
-            found: s.found != 0,
+            found: s.found,
             begin,
             settings: s.settings,
             target,
@@ -138,7 +139,7 @@ pub fn lend(e: Evaluation) -> State
         existence: existence_number(existence),
         support: flag_number(terms.support),
         kind: kind_number(kind),
-        found: flag_number(stop.found),
+        found: stop.found,
         domains,
         numbers,
         kept,

@@ -2,17 +2,16 @@
 -- by numbers has the promise of the call itself.
 use mathlib.Core.Path.{_≡_}
 use mathlib.Core.List.{List, [], _∷_}
-use mathlib.Core.Bool.{Bool, true, false, not}
+use mathlib.Core.Bool.{Bool, true, false}
 use Prim.Native.Nat.{ℕ}
 use lib.Dec.{eqb}
 use lib.ListN.{getD}
-use Rattle.octets.specs.Octets.{Octets, if_then_else_}
+use Rattle.octets.specs.Octets.{Octets, if_then_else_, is-set}
 use Rattle.octets.specs.Refusing.{OrRefused, refusal}
 use Rattle.octets.specs.declared.Refusal.{Refusal}
 use Rattle.octets.specs.declared.Written.{Written}
 use Rattle.domain.specs.declared.Octet.{Octet}
 use Rattle.policy.specs.declared.Policy.{Policy}
-use Rattle.txt.specs.declared.Status.{Status}
 use Rattle.verdict.specs.declared.Result.{Result}
 use Rattle.verdict.specs.declared.AppliedPolicy.{AppliedPolicy}
 use Rattle.verdict.specs.declared.Disposition.{Disposition}
@@ -37,20 +36,7 @@ use Rattle.evaluation_numbers.specs.declared.GivenNumbers.{GivenNumbers}
 use Rattle.evaluation_numbers.specs.declared.Called.{Called}
 use Rattle.evaluation_numbers.specs.declared.FoundNumbers.{FoundNumbers}
 
--- ------------------------------------------------------------------ handed over
-
--- "AN: status (0 records, 1 none, 2 error)"; one that is not listed is an error, never none
-abbrev pub statuses : List Status
-statuses = Status.Records ∷ Status.NoRecords ∷ []
-
-unfoldable pub status-in : ℕ → Status
-status-in n = getD statuses n Status.Error
-
 -- ------------------------------------------------------------------ the evaluation
-
--- 0 is no, any other number yes
-unfoldable pub yes : ℕ → Bool
-yes n = not (eqb n 0)
 
 abbrev pub place-kinds : List PlaceKind
 place-kinds =
@@ -62,12 +48,12 @@ place-kind-in n = getD place-kinds n PlaceKind.Judged
 -- every state holds one
 unfoldable pub held-of : State → Evaluation
 held-of s = record {
-  started = yes (s .started);
-  handed = yes (s .handed);
-  asked = yes (s .asked);
+  started = is-set (s .started);
+  handed = is-set (s .handed);
+  asked = is-set (s .asked);
   domains = s .domains;
   numbers = s .numbers;
-  terms = record { existence = existence-in (s .existence); support = yes (s .support); identifiers = s .identifiers };
+  terms = record { existence = existence-in (s .existence); support = is-set (s .support); identifiers = s .identifiers };
   kept = s .kept;
   count = s .count;
   stored = s .stored;
@@ -75,7 +61,7 @@ held-of s = record {
     kind = place-kind-in (s .kind);
     ruling = s .ruling;
     walk = s .walk;
-    stop = record { found = yes (s .found); begin = s .begin; settings = s .settings; target = s .target; more = s .more };
+    stop = record { found = s .found; begin = s .begin; settings = s .settings; target = s .target; more = s .more };
   };
 }
 

@@ -7,9 +7,7 @@ ghost use Rattle.octets.specs.Refusing.{refusal};
 ghost use Rattle.alignment_stored.specs.code.Stored.{slot};
 ghost use Rattle.domain.specs.Domain.{asked-name};
 ghost use Rattle.evaluation.specs.code.View.{blank};
-use domain::Labels;
 use domain::Octet;
-use domain_labels::Target;
 use evaluation::Acceptance;
 use evaluation::Changed;
 use evaluation::Evaluation;
@@ -17,7 +15,6 @@ use octets::Refusal;
 use octets::Written;
 use verdict::Existence;
 use verdict_cursor::KeptRuling;
-use verdict_cursor::KeptStop;
 use verdict_cursor::PlaceKind;
 use verdict_cursor::Position;
 use verdict_judgement::Terms;
@@ -48,16 +45,7 @@ pub fn empty() -> Evaluation
                 policy: 0,
             },
             walk: 0,
-            stop: KeptStop {
-                found: false,
-                begin: Octet(0),
-                settings: 0,
-                target: Target {
-                    begin: Octet(0),
-                    wider: Octet(0),
-                },
-                more: Labels(0),
-            },
+            stop: walk_stop::no_stop(),
         },
     }
 }

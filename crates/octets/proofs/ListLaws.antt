@@ -11,6 +11,16 @@ use lib.Seq.{drop-cons, take-nil}
 use Rattle.octets.specs.Octets.{Octets, any, all}
 use Rattle.octets.specs.Refusing.{numbered}
 
+-- a number past a list of cases
+pub past : {A : Type 0} (xs : List A) (n : ℕ) (d : A) → length xs ≤ n → getD xs n d ≡ d
+past [] n d h = refl
+past (x ∷ xs) zero d h = absurd (omega (arith, h))
+past (x ∷ xs) (suc n) d h = past xs n d (omega (arith, h))
+
+-- its bound is built up one case at a time
+pub further : (k n : ℕ) → k ≤ n → (n ≡ k → ⊥) → suc k ≤ n
+further k n h differs = omega arith
+
 pub any-append : {A : Type 0} (f : A → Bool) (a b : List A) → any f (a ++ b) ≡ (any f a || any f b)
 unfolding any
 any-append f [] b = refl

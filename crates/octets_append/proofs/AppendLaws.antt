@@ -6,8 +6,8 @@ use Prim.Native.Nat.{ℕ, _+_, _-_, _^_, _≤_, _<_}
 use native.Mathlib.Omega.{arith}
 use native.Mathlib.Nat.{add-assoc, zero-add}
 use lib.Dec.{leb}
-use lib.ListN.{length, take, drop, length-append, length-drop, take-append-drop}
-use lib.Seq.{length-take-le, take-at, drop-at, drop-drop, drop-length}
+use lib.ListN.{length, take, drop, length-append, length-take, length-drop, take-append-drop}
+use lib.Seq.{length-take-le, take-take, take-at, take-append-seam, take-append-le, drop-at, drop-append-le, drop-drop, drop-length}
 use borrow.Author.Tests.{le-leb, lt-leb, leb-true, leb-false}
 use borrow.Rule.Slice.PartMut.{putMid}
 use Rattle.octets.specs.Octets.{Octets, if_then_else_}
@@ -15,6 +15,7 @@ use Rattle.octets.specs.Lent.{over, fits, written, left, Writes}
 use Rattle.octets.specs.Refusing.{refusal}
 use Rattle.octets.specs.declared.Written.{Written}
 use Rattle.octets.specs.declared.Written.the-variants.{Wrote, Refused}
+use Rattle.octets.proofs.ListLaws.{drop-take}
 use Rattle.octets.proofs.LentLaws.{rest-of, writes}
 use Rattle.octets_append.specs.code.Appending.{place-after, fits-at, Appends}
 
@@ -127,3 +128,29 @@ appends-whole text memory room p =
 pub appends-three : (a b c before : Octets) (at : ℕ) → at + length (a ++ b ++ c) ≤ length before → {mid next last : ℕ} {once twice thrice : Octets}
     → Appends a at before mid once → Appends b mid once next twice → Appends c next twice last thrice → Appends (a ++ b ++ c) at before last thrice
 appends-three a b c before at room p q r = appends-both (a ++ b) c before at room (appends-both a b before at (omega (arith, length-append (a ++ b) c)) p q) r
+
+-- what was appended within the memory stands at its place, what lies before it is as it was, and the memory is as long
+module _ {text before after : Octets} {at next : ℕ} (room : at + length text ≤ length before) (p : Appends text at before next after) where
+  laid : after ≡ take at before ++ over text (drop at before)
+  unfolding fits-at
+  laid = p .leaves ∙ rw (le-leb (at + length text) (length before) room)
+
+  pub there : take (length text) (drop at after) ≡ text
+  unfolding over
+  there = rw (laid, drop-at (take at before) (text ++ drop (length text) (drop at before)) at (length-take-le at before (omega arith)), take-append-seam)
+
+  pub before-it : (from size : ℕ) → from + size ≤ at → take size (drop from after) ≡ take size (drop from before)
+  before-it from size h =
+      let front : length (take at before) ≡ at = length-take-le at before (omega arith) in
+      let rest : length (drop from (take at before)) ≡ at - from = rw (length-drop, front) in
+      rw (
+        laid,
+        drop-append-le from (take at before) (over text (drop at before)) (omega arith),
+        take-append-le size (drop from (take at before)) (over text (drop at before)) (omega arith),
+        drop-take,
+        take-take size (at - from) (drop from before) (omega arith),
+      )
+
+  pub as-long : length after ≡ length before
+  unfolding over
+  as-long = rw (laid, length-append, length-append) (omega (arith, room, length-take at before, length-drop (length text) (drop at before), length-drop at before))

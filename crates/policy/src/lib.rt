@@ -47,6 +47,7 @@ pub enum Reading {
 }
 
 // Where a part stands in a text: the octet at which it begins, and how many octets it has.
+#[repr(C)]
 pub struct Bounds {
     pub begin: usize,
     pub length: usize,

@@ -1,6 +1,7 @@
-// What an answer says of its name, kept as a number and read back.
+// The number of an answer's status read; what an answer says of its name, kept as a number and read back.
 ghost use mathlib.Core.Path.{_≡_};
 ghost use Prim.Native.Nat.{_<_};
+ghost use Rattle.txt.specs.Answers.{status-numbered};
 ghost use Rattle.txt_codes.specs.code.Codes.{setting-code, mode-code, psd-code, flag-code, settings-code, reply-code, setting-of, mode-of-code, psd-of, settings-of, reply-of};
 use policy::Mode;
 use policy::Policy;
@@ -8,6 +9,18 @@ use policy::Psd;
 use policy::Setting;
 use policy::Settings;
 use txt::Reply;
+use txt::Status;
+
+// The status of an answer: one that is not listed is an error.
+pub fn read_status(n: u8) -> Status
+    ensures { λ r. ⌜ r ≡ status-numbered n ⌝ }
+{
+    match n {
+        0 => Status::Records,
+        1 => Status::NoRecords,
+        _ => Status::Error,
+    }
+}
 
 // The setting of p, sp or np, as a digit.
 fn encode_setting(x: Setting) -> usize

@@ -1,10 +1,9 @@
 // Where an evaluation stands between calls: definitions.
-use domain::Labels;
 use domain::Octet;
-use domain_labels::Target;
 use policy::Settings;
 use verdict::AppliedPolicy;
 use walk_progress::Stop;
+use walk_stop::KeptStop;
 
 // The applied record where its settings are in force: where its domain begins in the author domain, the settings, and the
 // policy that they give.
@@ -52,16 +51,6 @@ pub struct KeptRuling {
     pub begin: Octet,
     pub settings: usize,
     pub policy: usize,
-}
-
-// Where an open walk stops, as it is kept: whether a record was found so far, where that one's domain begins, its settings
-// as a number, the target that lacks an answer, and how many targets come after it.
-pub struct KeptStop {
-    pub found: bool,
-    pub begin: Octet,
-    pub settings: usize,
-    pub target: Target,
-    pub more: Labels,
 }
 
 // A place as an evaluation keeps it. What its kind of place does not have is not read.

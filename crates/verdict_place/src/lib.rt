@@ -1,18 +1,15 @@
 // Each place as plain fields, and such a place read.
 ghost use mathlib.Core.Path.{_≡_};
-ghost use Rattle.verdict_cursor.specs.code.Positions.{policy-in, ruling-in, stop-in, place-in};
-use domain::Labels;
+ghost use Rattle.walk_stop.specs.code.KeptStops.{stop-in};
+ghost use Rattle.verdict_cursor.specs.code.Positions.{policy-in, ruling-in, place-in};
 use domain::Octet;
-use domain_labels::Target;
 use policy::Policy;
 use verdict::AppliedPolicy;
 use verdict_cursor::KeptRuling;
-use verdict_cursor::KeptStop;
 use verdict_cursor::Place;
 use verdict_cursor::PlaceKind;
 use verdict_cursor::Position;
 use verdict_cursor::Ruling;
-use walk_progress::Applicable;
 use walk_progress::Stop;
 
 // A policy as a number.
@@ -69,50 +66,6 @@ fn read_ruling(k: KeptRuling) -> Ruling
     }
 }
 
-// Where a walk stops, to keep.
-fn keep_stop(s: Stop) -> KeptStop
-    ensures { λ k. ⌜ stop-in k ≡ s ⌝ }
-{
-    let target = s.target;
-    let more = s.more;
-    let last = s.last;
-    match last {
-        Applicable::Nothing => KeptStop {
-            found: false,
-            begin: Octet(0),
-            settings: 0,
-            target,
-            more,
-        },
-        Applicable::Record { begin, settings } => KeptStop {
-            found: true,
-            begin,
-            settings: txt_codes::encode_settings(settings),
-            target,
-            more,
-        },
-    }
-}
-
-// Where a walk stops, as it was kept.
-fn read_stop(k: KeptStop) -> Stop
-    ensures { λ s. ⌜ s ≡ stop-in k ⌝ }
-{
-    let begin = k.begin;
-    let target = k.target;
-    let more = k.more;
-    if !k.found {
-        return Stop {
-            last: Applicable::Nothing,
-            target,
-            more,
-        };
-    }
-    let settings = txt_codes::decode_settings(k.settings);
-    let last = Applicable::Record { begin, settings };
-    Stop { last, target, more }
-}
-
 // No applied record.
 fn no_ruling() -> KeptRuling {
     KeptRuling {
@@ -126,18 +79,7 @@ fn no_ruling() -> KeptRuling {
 fn at(kind: PlaceKind, ruling: KeptRuling) -> Position
     ensures { λ q. ⌜ (q .kind ≡ kind) × (q .ruling ≡ ruling) ⌝ }
 {
-    let begin = Octet(0);
-    let target = Target {
-        begin,
-        wider: begin,
-    };
-    let stop = KeptStop {
-        found: false,
-        begin,
-        settings: 0,
-        target,
-        more: Labels(0),
-    };
+    let stop = walk_stop::no_stop();
     Position {
         kind,
         ruling,
@@ -150,7 +92,7 @@ fn at(kind: PlaceKind, ruling: KeptRuling) -> Position
 fn on(kind: PlaceKind, ruling: KeptRuling, walk: usize, s: Stop) -> Position
     ensures { λ q. ⌜ (q .kind ≡ kind) × (q .ruling ≡ ruling) × (q .walk ≡ walk) × (stop-in (q .stop) ≡ s) ⌝ }
 {
-    let stop = keep_stop(s);
+    let stop = walk_stop::keep_stop(s);
     Position {
         kind,
         ruling,
@@ -229,15 +171,15 @@ pub fn read(q: Position) -> Place
     let kind = q.kind;
     match kind {
         PlaceKind::OwnName => Place::OwnName,
-        PlaceKind::Author => Place::Author(read_stop(stop)),
+        PlaceKind::Author => Place::Author(walk_stop::read_stop(stop)),
         PlaceKind::Completing => Place::Completing {
             ruling: read_ruling(kept),
-            stop: read_stop(stop),
+            stop: walk_stop::read_stop(stop),
         },
         PlaceKind::Identifier => Place::Identifier {
             ruling: read_ruling(kept),
             walk: q.walk,
-            stop: read_stop(stop),
+            stop: walk_stop::read_stop(stop),
         },
         PlaceKind::NotKnown => Place::NotKnown,
         PlaceKind::NoRecord => Place::NoRecord,

@@ -1,6 +1,7 @@
 // For programs in other languages that send their own lookups: the next step, and an answer.
 ghost use Rattle.book.specs.Book.{answer};
-ghost use Rattle.evaluation_numbers.specs.Numbers.{status-in, Accepts, Steps};
+ghost use Rattle.txt.specs.Answers.{status-numbered};
+ghost use Rattle.evaluation_numbers.specs.Numbers.{Accepts, Steps};
 use evaluation_numbers::Called;
 use evaluation_numbers::State;
 
@@ -25,10 +26,10 @@ pub extern "C" fn waslidhaj_answer_apart(
     bytes: &[u8],
     scratch: &mut [u8],
 ) -> Called
-    ensures { λ r. ⌜ Accepts state (answer (now (name .entry)) (status-in status) (now (bytes .entry)) (now (scratch .entry))) r (now (scratch .exit)) ⌝ }
+    ensures { λ r. ⌜ Accepts state (answer (now (name .entry)) (status-numbered status) (now (bytes .entry)) (now (scratch .entry))) r (now (scratch .exit)) ⌝ }
 {
     let e = evaluation_lent::hold(state);
-    let kind = evaluation_given::read_status(status);
+    let kind = txt_codes::read_status(status);
     let changed = evaluation_answer::answer(e, name, kind, bytes, scratch);
     let acceptance = changed.acceptance;
     let given = evaluation_given::number_acceptance(acceptance);

@@ -10,8 +10,8 @@ pub mod tests;
 use sheets::programs::calls::{fixed, random};
 use tally::Tally;
 
-pub use code::{interface, Calls, Proved};
-pub use run::{Run, BEHIND};
+pub use code::{interface, safe, Calls, Proved};
+pub use run::Run;
 
 /// A run of so many random messages must reach every call and refusal.
 const MANY: u64 = 1_000;

@@ -1,13 +1,17 @@
 //! Compares the proved evaluator with the second one, sheet by sheet and call by
-//! call, the proved daily rows with the second evaluator's, history by history,
-//! the proved writer and reader of policy records, record by record, and the proved
-//! reader of the Identity-Alignment field, field by field.
+//! call, the proved checks of report addresses, call by call, the proved daily rows
+//! with the second evaluator's, history by history, the proved writer and reader of
+//! policy records, record by record, and the proved reader of the Identity-Alignment
+//! field, field by field.
 
 #![forbid(unsafe_code)]
 
+mod addresses;
 mod agreement;
+mod alike;
 mod calls;
 mod cases;
+mod checks;
 mod fields;
 mod histories;
 mod program;
@@ -34,6 +38,8 @@ const USAGE: &str = "usage:
   compare program PATH COUNT SEED
   compare calls COUNT SEED
   compare states COUNT SEED
+  compare addresses COUNT SEED
+  compare checks COUNT SEED
   compare vectors
   compare histories COUNT SEED
   compare records COUNT SEED
@@ -47,6 +53,8 @@ fn main() -> ExitCode {
         ["program", path, count, seed] => compare_program(path, [count, seed]),
         ["calls", count, seed] => compare_calls([count, seed]),
         ["states", count, seed] => compare_states([count, seed]),
+        ["addresses", count, seed] => compare_addresses([count, seed]),
+        ["checks", count, seed] => compare_checks([count, seed]),
         ["vectors"] => compare_vectors(),
         ["histories", count, seed] => compare_histories([count, seed]),
         ["records", count, seed] => compare_records([count, seed]),
@@ -144,6 +152,22 @@ fn compare_calls(words: [&str; 2]) -> Result<(), String> {
 fn compare_states(words: [&str; 2]) -> Result<(), String> {
     let [count, seed] = numbers(words)?;
     let line = states::compare(&states::Proved, calls::Proved::from, count, seed)?;
+    println!("{line}");
+    Ok(())
+}
+
+/// Lists of calls of address checks by both, in this process.
+fn compare_addresses(words: [&str; 2]) -> Result<(), String> {
+    let [count, seed] = numbers(words)?;
+    let line = addresses::compare(&addresses::Proved::default(), count, seed)?;
+    println!("{line}");
+    Ok(())
+}
+
+/// Calls on address checks that no call gave, in this process.
+fn compare_checks(words: [&str; 2]) -> Result<(), String> {
+    let [count, seed] = numbers(words)?;
+    let line = checks::compare(&checks::Proved, addresses::Proved::from, count, seed)?;
     println!("{line}");
     Ok(())
 }

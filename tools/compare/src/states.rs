@@ -4,24 +4,44 @@
 
 mod check;
 mod code;
+pub mod hand;
 mod lent;
-mod made;
-mod tally;
+pub mod made;
+pub mod tally;
 #[cfg(test)]
 mod tests;
 
-use crate::calls::{Calls, Run};
-use check::Checker;
+use crate::calls::{interface, Calls, Run};
+use check::every_call;
 use code::Interface;
-use made::{made, Real};
+use hand::Hand;
+use made::{made, Fields, Made, Real};
 use sheets::programs::calls::{random, Call};
+use sheets::programs::lent::FILL;
 use tally::Tally;
 use waslidhaj::raw::State;
 
 pub use code::Proved;
 
-/// A run of so many states must reach every kind of answer.
+/// A run of so many states or checks must reach every kind of answer.
 const MANY: u64 = 1_000;
+/// What must come.
+const WANTED: [&str; 14] = [
+    "open accepted",
+    "open refused",
+    "add accepted",
+    "add refused",
+    "next ask",
+    "next verdict",
+    "next refused",
+    "answer accepted",
+    "answer refused",
+    "result verdict",
+    "result refused",
+    "field accepted",
+    "field refused",
+    "finding verdict",
+];
 
 /// Compares on so many states; gives a line of what was seen, or the first fault.
 /// The calls go on from a state.
@@ -31,17 +51,34 @@ pub fn compare<C: Calls>(
     count: u64,
     seed: u64,
 ) -> Result<String, String> {
-    let mut tally = Tally::default();
-    let mut real = Real::new(seed);
     let mut messages = random(seed);
-    for index in 0..count {
-        let (kind, state) = made(seed, index, &mut real)?;
-        let fault = |what: String| format!("seed {seed}, index {index}, {kind:?}: {what}");
-        let mut checker = Checker::new(interface, seed, index, &mut tally);
-        checker.check(&state).map_err(fault)?;
+    let check = |state: State, hand: &mut Hand| {
+        hand.check(interface, state, every_call)?;
         let message = messages.next().unwrap_or_default();
-        opened_over(calls(state), &message).map_err(fault)?;
-        tally.states += 1;
+        opened_over(calls(state), &message)
+    };
+    check_all(
+        Tally::new("states", &WANTED),
+        real(seed),
+        count,
+        seed,
+        check,
+    )
+}
+
+/// Checks as many as are wanted that no call gave, each with calls of its own.
+pub fn check_all<V: Made>(
+    mut tally: Tally,
+    mut real: Real<V>,
+    count: u64,
+    seed: u64,
+    mut check: impl FnMut(V, &mut Hand) -> Result<(), String>,
+) -> Result<String, String> {
+    for index in 0..count {
+        let (kind, value) = made(seed, index, &mut real)?;
+        let checked = check(value, &mut Hand::new(seed, index, &mut tally));
+        checked.map_err(|what| format!("seed {seed}, index {index}, {kind:?}: {what}"))?;
+        tally.made += 1;
     }
     if count >= MANY {
         tally.complete()?;
@@ -62,4 +99,50 @@ fn opened_over(calls: impl Calls, message: &[Call]) -> Result<(), String> {
         run.step(call)?;
     }
     Ok(())
+}
+
+/// The states of running evaluations.
+fn real(seed: u64) -> Real<State> {
+    let mut calls = random(seed).flatten();
+    Real::new(move |state| {
+        let call = calls.next().ok_or("no calls are left")?;
+        let mut lent = vec![FILL; call.lent()];
+        Ok(interface::make(state, &call, 2, &mut lent)?.0)
+    })
+}
+
+impl Made for State {
+    const ZEROS: State = State::ZEROS;
+    const FLAGS: usize = 4;
+
+    fn fields(&mut self) -> Fields<'_> {
+        Fields {
+            flags: vec![
+                &mut self.started,
+                &mut self.handed,
+                &mut self.asked,
+                &mut self.existence,
+                &mut self.support,
+                &mut self.place_kind,
+                &mut self.found,
+            ],
+            domains: &mut self.domains,
+            numbers: &mut self.numbers,
+            kept: &mut self.kept,
+            stored: &mut self.stored,
+            words: vec![
+                &mut self.identifiers,
+                &mut self.count,
+                &mut self.ruling_begin,
+                &mut self.ruling_settings,
+                &mut self.ruling_policy,
+                &mut self.walk,
+                &mut self.record_begin,
+                &mut self.record_settings,
+                &mut self.target_begin,
+                &mut self.target_wider,
+                &mut self.more,
+            ],
+        }
+    }
 }

@@ -85,6 +85,13 @@ impl Header {
     }
 }
 
+/// What a function of the archive is called in the header, where that defines one
+/// over it.
+pub fn plain(name: &str) -> &str {
+    let over = ["_apart", "_by_value"].map(|ending| name.strip_suffix(ending));
+    over.into_iter().flatten().next().unwrap_or(name)
+}
+
 /// The names of a declaration such as `uint8_t a, b[3]`.
 fn fields(declaration: &str) -> Vec<String> {
     let names = declaration
@@ -102,7 +109,7 @@ fn fields(declaration: &str) -> Vec<String> {
 
 #[cfg(test)]
 mod tests {
-    use super::{Header, Struct};
+    use super::{plain, Header, Struct};
 
     #[test]
     fn structs_enumerators_and_functions() {
@@ -118,5 +125,13 @@ mod tests {
         assert_eq!(header.structs(), [Struct { name, fields }]);
         assert_eq!(header.functions(), ["g", "h"]);
         assert_eq!(header.defined(), ["f", "i"]);
+    }
+
+    #[test]
+    fn functions_over_others() {
+        assert_eq!(
+            ["f_apart", "f_by_value", "f_name"].map(plain),
+            ["f", "f", "f_name"]
+        );
     }
 }

@@ -52,7 +52,8 @@ pub fn alias(name: &str) -> Said {
     Said::Alias(name.to_string())
 }
 
-/// Names, in lower case, and what is said for each.
+/// Names, in lower case, and what is said for each. A name that begins with `*.`
+/// stands for all below it that are not named themselves.
 #[derive(Clone, Debug, Default)]
 pub struct Zone(BTreeMap<String, Said>);
 
@@ -62,9 +63,17 @@ impl Zone {
         Zone(names.iter().map(owned).collect())
     }
 
+    /// What is said for a name: its own, or that of the nearest `*` above it.
+    fn said(&self, name: &str) -> Option<&Said> {
+        let above = name.match_indices('.').map(|(dot, _)| &name[dot..]);
+        let mut names = above.map(|above| format!("*{above}"));
+        let own = self.0.get(name);
+        own.or_else(|| names.find_map(|wildcard| self.0.get(&wildcard)))
+    }
+
     /// The reply to a question, if there is one.
     pub fn reply(&self, query: &Query) -> Option<Vec<u8>> {
-        match self.0.get(&query.name) {
+        match self.said(&query.name) {
             Some(Said::Silence) => None,
             Some(Said::Damaged) => Some(query.damaged()),
             Some(Said::CutOff) => Some(query.cut_off()),
@@ -83,15 +92,15 @@ impl Zone {
     fn found(&self, query: &Query) -> Vec<u8> {
         let mut answers = Vec::new();
         let mut name = query.name.as_str();
-        while let Some(Said::Alias(next)) = self.0.get(name) {
+        while let Some(Said::Alias(next)) = self.said(name) {
             answers.push(answer(name, CNAME, name_octets(next)));
             name = next;
         }
-        let code = match self.0.get(name) {
+        let code = match self.said(name) {
             None => Code::NoSuchName,
             _ => Code::NoError,
         };
-        if let (Some(Said::Records(records)), TXT) = (self.0.get(name), query.kind) {
+        if let (Some(Said::Records(records)), TXT) = (self.said(name), query.kind) {
             let data = records.iter().map(|strings| text_data(strings));
             answers.extend(data.map(|data| answer(name, TXT, data)));
         }

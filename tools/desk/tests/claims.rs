@@ -62,19 +62,19 @@ fn fields(text: &str) -> Vec<String> {
     fields
 }
 
-/// A table in a file and how many rows it has: what begins with one of these words.
+/// A table in a file and how many rows it has: each has one of these words, once.
 fn rows(text: &str, table: &str, words: &[&str]) -> String {
     let (_, table_text) = text
         .split_once(&format!("\n{table} =\n"))
         .unwrap_or_else(|| panic!("no table {table}"));
     let (rows, _) = table_text.split_once("∷ []\n\n").expect("its end");
-    let begins = |part: &&str| words.contains(part);
-    let count = rows.split_whitespace().filter(begins).count();
+    let of_a_row = |part: &&str| words.contains(part);
+    let count = rows.split_whitespace().filter(of_a_row).count();
     format!("{table}: {count} rows")
 }
 
 /// Files with computed examples that are records, and those that are tables, with
-/// the words that begin a row.
+/// the words of which each row has one.
 const EXAMPLES: [&str; 6] = [
     "domain/specs/FinalDot.antt",
     "policy/specs/Repeated.antt",
@@ -83,7 +83,7 @@ const EXAMPLES: [&str; 6] = [
     "verdict/specs/StoredExamples.antt",
     "field/specs/Examples.antt",
 ];
-const TABLES: [(&str, &str, &[&str]); 4] = [
+const TABLES: [(&str, &str, &[&str]); 17] = [
     ("sheet/specs/Marked.antt", "table", &["row"]),
     ("sheet/specs/Dotted.antt", "dotted", &["row"]),
     (
@@ -96,7 +96,38 @@ const TABLES: [(&str, &str, &[&str]); 4] = [
         "field-table",
         &["lists", "has-no-field"],
     ),
+    // The lists of calls that make up the table of checks, then that table.
+    (CHECKS, "nothing-begun", &["⇒"]),
+    (CHECKS, "equal-domains", &["⇒"]),
+    (CHECKS, "equal-organizations", &["⇒"]),
+    (CHECKS, "policy-domain-first", &["⇒"]),
+    (CHECKS, "error-of-policy", &["⇒"]),
+    (CHECKS, "error-of-host", &["⇒"]),
+    (CHECKS, "walked", &["⇒"]),
+    (CHECKS, "outcome c v", &["⇒"]),
+    (CHECKS, "unreadable", &["⇒"]),
+    (CHECKS, "is-replaced", &["⇒"]),
+    (
+        CHECKS,
+        "check-table",
+        &[
+            "nothing-begun",
+            "equal-domains",
+            "equal-organizations",
+            "policy-domain-first",
+            "error-of-policy",
+            "error-of-host",
+            "(walked",
+        ],
+    ),
+    (
+        CHECKS,
+        "answer-table",
+        &["Agreement.PlainNo)", "Agreement.Confirmed)", "replaced"],
+    ),
+    (CHECKS, "host-table", &["nothing)", "just"]),
 ];
+const CHECKS: &str = "address/specs/Marked.antt";
 
 /// Everything that is claimed, by name, and how many rows each table has.
 fn delivered() -> Vec<String> {

@@ -1,6 +1,7 @@
 //! Closed when in doubt: the README's example in C and `examples/live/check.c` on
 //! what is refused, on short memory and on damaged states. Without a verdict they
-//! print no disposition but defer, and they never loop.
+//! print no disposition but defer, and they never loop. So of an address check:
+//! without an outcome it is not known, to a program that looks at nothing else.
 
 use std::fs;
 use std::path::{Path, PathBuf};
@@ -14,6 +15,8 @@ use desk::root;
 const LIMIT: &str = "120";
 /// The bits of a state, itself and the states at random.
 const STATES: usize = 8 * 5352 + 1 + 4000;
+/// The bits of a check, and the checks at random.
+const CHECKS: usize = 8 * 704 + 4000;
 
 fn example() -> String {
     let text = fs::read_to_string(root().join("README.md")).expect("the README");
@@ -153,9 +156,13 @@ fn the_live_check_is_refused_without_a_disposition() {
 /// How many damaged states came to a verdict, and how many to none.
 fn damaged(title: &str, source: &str, options: &[&str]) -> [usize; 2] {
     let around = root().join("tools/desk/tests/closed/damaged.c");
-    let program = built(title, source, Some(&around), options);
+    reported(title, &built(title, source, Some(&around), options))
+}
+
+/// The two numbers that a program writes into a file.
+fn reported(title: &str, program: &Path) -> [usize; 2] {
     let report = folder(title).join("report");
-    let ended = limited(&program)
+    let ended = limited(program)
         .arg(&report)
         .stdout(Stdio::null())
         .stderr(Stdio::null())
@@ -195,4 +202,14 @@ fn damaged_states_on_short_scratch() {
         assert_eq!(verdicts + without, STATES, "{title}");
         assert!(without > verdicts, "{title}: {without}");
     }
+}
+
+#[test]
+fn an_address_without_an_outcome_is_not_known() {
+    let source = root().join("tools/desk/tests/closed/careless.c");
+    let source = fs::read_to_string(source).expect("the program");
+    let program = built("careless", &source, None, &["-O2"]);
+    let [outcomes, without] = reported("careless", &program);
+    assert_eq!(outcomes + without, CHECKS);
+    assert!(outcomes > without && without > 50, "{without}");
 }

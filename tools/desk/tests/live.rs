@@ -2,6 +2,10 @@
 //! against a name server of its own: what they print, how they end, and that each
 //! name came over the wire exactly once.
 
+#[path = "live/address_cases.rs"]
+mod address_cases;
+#[path = "live/addresses.rs"]
+mod addresses;
 #[path = "live/cases.rs"]
 mod cases;
 
@@ -98,11 +102,16 @@ fn verdict_lines(case: &Case) -> Vec<String> {
     ]
 }
 
+/// What a program says of a name whose answer is over a limit.
+fn over_limit(program: &str, name: &str) -> String {
+    let reason = "the answer is over a limit or unreadable, so it is taken as an error";
+    format!("{program}: {name}: {reason}")
+}
+
 fn over_limit_lines(case: &Case, program: &str) -> Vec<String> {
     let name = case.over_limit.map(asked_name);
-    let reason = "the answer is over a limit or unreadable, so it is taken as an error";
-    let line = |name: String| format!("{program}: {name}: {reason}");
-    name.map(line).into_iter().collect()
+    let line = name.map(|name| over_limit(program, &name));
+    line.into_iter().collect()
 }
 
 /// The C program's words for a message of a description's lines.

@@ -137,6 +137,7 @@ fn every_example_of_a_command() {
         "--write",
         "--read",
         "--field",
+        "--address",
     ] {
         let shown = examples.iter().any(|own| own.command.contains(option));
         assert!(shown, "README.md has no example of ./dmarc {option}");
@@ -212,6 +213,7 @@ const RUN: &[(&str, i32)] = &[
     ("./dmarc --write", 1),
     ("./dmarc --read", 2),
     ("./dmarc --field", 2),
+    ("./dmarc --address", 2),
 ];
 /// Commands that are not run, and why.
 const NOT_RUN: &[(&str, &str)] = &[
@@ -223,6 +225,10 @@ const NOT_RUN: &[(&str, &str)] = &[
     ),
     (
         "examples/live/check.sh message.txt",
+        "tests/live.rs runs it, against a name server of its own",
+    ),
+    (
+        "examples/live/check.sh --address blue.example.com mailto:reports@red.example.net",
         "tests/live.rs runs it, against a name server of its own",
     ),
 ];

@@ -100,3 +100,26 @@ fn codes_and_silence() {
     assert_eq!(by_udp(&server, b"no question", SHORT), None);
     assert_eq!(server.asked(), ["udp f", "udp d", "udp x", "udp s"]);
 }
+
+/// A name that is named itself is not the wildcard's, and neither is the one that
+/// the wildcard stands below.
+#[test]
+fn a_wildcard() {
+    let zone = [
+        ("*.b", record("x")),
+        ("*.c.b", Said::Failure),
+        ("d.b", Said::NoData),
+    ];
+    let server = Server::start(Zone::new(&zone)).expect("a server");
+    let reply = |name: &str| {
+        let reply = by_udp(&server, &question(name, None), LONG);
+        head(&reply.expect("a reply"))
+    };
+    assert_eq!(reply("a.b"), (WHOLE, 1));
+    assert_eq!(reply("a.e.b"), (WHOLE, 1));
+    assert_eq!(reply("d.b"), (WHOLE, 0));
+    assert_eq!(reply("a.c.b"), ([0x81, 0x82], 0));
+    assert_eq!(reply("b"), ([0x81, 0x83], 0));
+    let octets = by_udp(&server, &question("a.b", None), LONG).expect("a reply");
+    assert!(octets.ends_with(b"\x01a\x01b\0\0\x10\0\x01\0\0\0\x3c\0\x02\x01x"));
+}

@@ -7,7 +7,7 @@ use std::path::{Path, PathBuf};
 use std::process::Command;
 
 use desk::compiler::{archive, compile};
-use desk::header::Header;
+use desk::header::{plain, Header};
 use desk::root;
 use waslidhaj::{RUN_STACK_OCTETS, STACK_OCTETS};
 
@@ -116,12 +116,13 @@ fn each_call_needs_what_the_header_says() {
 /// are those that it defines for memory that overlaps.
 #[test]
 fn the_table_has_every_call() {
-    let functions = Header::read(&header()).functions();
+    let header = Header::read(&header());
+    let defined = header.defined();
     let mut calls = Vec::new();
-    for name in &functions {
-        let plain = name.strip_suffix("_apart").unwrap_or(name);
+    for name in &header.functions() {
+        let plain = plain(name);
         calls.push(plain.to_string());
-        if plain != name {
+        if name.ends_with("_apart") || defined.contains(&format!("{plain}_copied")) {
             calls.push(format!("{plain}{OVERLAPPING}"));
         }
     }

@@ -1,33 +1,23 @@
 //! Demand 3's book: what a list of calls gives back and leaves in lent memory.
 
-use crate::domain::without_dot;
+use crate::asking::Asking;
 use crate::evaluate::{evaluate, Evaluation, Progress};
 use crate::message::Message;
 use crate::refusal::Refusal;
 use crate::report;
 use crate::rows::Finding;
-use crate::txt::{self, Answer, Status};
+use crate::txt::Answer;
 use crate::verdict::Verdict;
 use crate::walk::AskedName;
 
-/// Refusal 10: "scratch under 4,096 octets"
-pub const SCRATCH_OCTETS: usize = 4096;
-
-/// An accepted answer as it was handed in.
-#[derive(Clone, Debug, PartialEq, Eq)]
-struct Accepted {
-    name: Vec<u8>,
-    status: Status,
-    bytes: Vec<u8>,
-}
+pub use crate::asking::SCRATCH_OCTETS;
 
 /// "It holds message, accepted answers and the name now asked; the last two
 /// start empty." Without a message nothing was opened.
 #[derive(Clone, Debug, Default, PartialEq, Eq)]
 pub struct Book {
     message: Option<Message>,
-    accepted: Vec<Accepted>,
-    asked: Option<Vec<u8>>,
+    asking: Asking,
     /// "the first name or the verdict has been handed out"
     closed: bool,
 }
@@ -64,7 +54,7 @@ impl Book {
         self.closed = true;
         Ok(match evaluation.progress {
             Progress::Ask(asked) => {
-                self.asked = Some(asked.name.clone());
+                self.asking.ask(&asked.name);
                 Step::Ask(asked)
             }
             Progress::Verdict(verdict) => Step::Verdict(verdict),
@@ -78,40 +68,7 @@ impl Book {
         answer: Answer,
         scratch: &mut [u8],
     ) -> Result<(), Refusal> {
-        let name = without_dot(name);
-        let now_asked = |asked: &Vec<u8>| asked.eq_ignore_ascii_case(name);
-        if !self.asked.as_ref().is_some_and(now_asked) {
-            return Err(Refusal::new(5, 0));
-        }
-        if !txt::acceptable(answer) {
-            return Err(Refusal::new(6, 0));
-        }
-        if scratch.len() < SCRATCH_OCTETS {
-            return Err(Refusal::new(10, SCRATCH_OCTETS));
-        }
-        if answer.status == Status::Records {
-            // "all its texts in record order from octet 0, the rest unchanged"
-            let texts = txt::texts(answer.bytes).unwrap_or_default();
-            report::lend(&texts.concat(), scratch)?;
-        }
-        self.keep(answer);
-        Ok(())
-    }
-
-    /// Keeps an answer for the name now asked, and then no name is asked.
-    fn keep(&mut self, answer: Answer) {
-        let bytes = match answer.status {
-            Status::Records => answer.bytes.to_vec(),
-            // "bytes that come with none or error are not read"
-            Status::None | Status::Error => Vec::new(),
-        };
-        if let Some(name) = self.asked.take() {
-            self.accepted.push(Accepted {
-                name,
-                status: answer.status,
-                bytes,
-            });
-        }
+        self.asking.answer(name, answer, scratch)
     }
 
     /// "Result: 7 while a name lacks an answer, else the verdict."
@@ -144,19 +101,11 @@ impl Book {
 
     /// The name now asked.
     pub fn now_asked(&self) -> Option<&[u8]> {
-        self.asked.as_deref()
+        self.asking.now_asked()
     }
 
     fn evaluation(&self) -> Option<Evaluation> {
         let message = self.message.as_ref()?;
-        Some(evaluate(message, |name| self.accepted_answer(name)))
-    }
-
-    fn accepted_answer(&self, name: &[u8]) -> Option<Answer<'_>> {
-        let accepted = self.accepted.iter().find(|known| known.name == name)?;
-        Some(Answer {
-            status: accepted.status,
-            bytes: &accepted.bytes,
-        })
+        Some(evaluate(message, |name| self.asking.accepted(name)))
     }
 }

@@ -6,6 +6,8 @@
 
 #![forbid(unsafe_code)]
 
+pub mod address;
+mod asking;
 pub mod book;
 pub mod domain;
 pub mod evaluate;

@@ -73,13 +73,17 @@ impl<'f, 'a> Asker<'f, 'a> {
         let Some(name) = target.asked_name() else {
             return Ok(Reply::NoRecord);
         };
-        let answer = (self.answers)(&name);
         let place = start.place_of(target);
-        let asked = AskedName { name, walk, place };
+        self.ask(AskedName { name, walk, place }).map(txt::reply)
+    }
+
+    /// The answer of a name, which goes on the list "where it first comes".
+    pub fn ask(&mut self, asked: AskedName) -> Result<Answer<'a>, NoAnswerYet> {
+        let answer = (self.answers)(&asked.name);
         if !self.names.iter().any(|known| known.name == asked.name) {
             self.names.push(asked.clone());
         }
-        answer.map(txt::reply).ok_or(NoAnswerYet(asked))
+        answer.ok_or(NoAnswerYet(asked))
     }
 
     /// "It ends after a record with psd=y or psd=n, after an error, or at the

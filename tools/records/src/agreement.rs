@@ -1,6 +1,7 @@
 //! The code and the second evaluator on one record.
 
 use crate::code::{accepted, numbers, settings, Code, RecordNumbers, RecordRead};
+use crate::words::two;
 use evaluator::policy::{self, Settings};
 use evaluator::publishing::{write_record, MOST_RUA_OCTETS};
 use evaluator::refusal::Refusal;
@@ -84,10 +85,6 @@ fn expected_numbers(text: &[u8], settings: Option<Settings>) -> RecordRead {
         rua_begin,
         rua_length,
     }
-}
-
-fn two(what: &str, given: &str, expected: &str) -> String {
-    format!("{what}\n-- the proved code\n{given}\n-- the reference\n{expected}")
 }
 
 fn said(answer: Result<usize, Refusal>) -> String {

@@ -3,10 +3,10 @@
 //! could stand there.
 
 pub mod code;
-mod marked;
+pub(crate) mod marked;
 mod words;
 
-use crate::words::differing;
+use crate::words::{differing, two};
 use code::Read;
 use evaluator::field::{expected, read_field};
 use evaluator::refusal::Refusal;
@@ -17,12 +17,11 @@ pub fn agreed(reader: impl Fn(&[u8]) -> Read, text: &[u8]) -> Result<Read, Strin
     let (given, expected) = (reader(text), read_field(text));
     match given == expected {
         true => Ok(given),
-        false => Err(format!(
-            "the readings differ\n-- the proved code\n{}\n-- the reference\n{}\n-- the field\n{}",
-            words::answer(&given),
-            words::answer(&expected),
-            marked::shown(text)
-        )),
+        false => {
+            let (given, expected) = (words::answer(&given), words::answer(&expected));
+            let differ = two("the readings differ", &given, &expected);
+            Err(format!("{differ}\n-- the field\n{}", marked::shown(text)))
+        }
     }
 }
 

@@ -1,8 +1,9 @@
-//! Policy records written and read by the proved code, and fields read, held to the
-//! second evaluator, and said in words.
+//! Policy records written and read by the proved code, fields read and report
+//! addresses checked, held to the second evaluator, and said in words.
 
 #![forbid(unsafe_code)]
 
+pub mod address;
 pub mod agreement;
 pub mod code;
 pub mod field;

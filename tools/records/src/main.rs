@@ -1,22 +1,30 @@
-//! Writes a policy record from its tags, says what a policy record sets, and what an
-//! Identity-Alignment field names. The octets are the proved code's, the words the
-//! second evaluator's once both agree.
+//! Writes a policy record from its tags, says what a policy record sets, what an
+//! Identity-Alignment field names, and whether a report address agreed. The octets
+//! are the proved code's, the words the second evaluator's once both agree.
 
 #![forbid(unsafe_code)]
 
 use std::os::unix::ffi::OsStringExt;
 use std::process::ExitCode;
 
+use records::address::{self, Form, Said};
 use records::code::Proved;
 use records::field::code::proved;
 use records::{field, reading, writing};
+use sheets::address::AddressHanded;
 use sheets::command::{ended, input, output};
+use sheets::handed;
 
 const USAGE: &str = "usage:
   dmarc-records write TAG=VALUE...
   dmarc-records read < text
   dmarc-records field < text
-  dmarc-records field-json < text";
+  dmarc-records field-json < text
+  dmarc-records address FORM DOMAIN ENTRY
+  dmarc-records address FORM DOMAIN ENTRY NAME < answers
+FORM is plain, explain, json or next; NAME is what the answers are called in
+messages. An address ends with 20 not known, 21 no, 22 inside, 23 confirmed or
+24 replaced, with 3 if it is refused, and with 0 if a next name is printed.";
 
 /// More octets than a field is read of.
 const FIELD_OCTETS: u64 = 1 << 20;
@@ -33,6 +41,8 @@ fn main() -> ExitCode {
         Some((b"read", [])) => ended(read()),
         Some((b"field", [])) => read_field(field_lines),
         Some((b"field-json", [])) => read_field(field_json),
+        Some((b"address", [form, policy, entry])) => check(form, policy, entry, None),
+        Some((b"address", [form, policy, entry, name])) => check(form, policy, entry, Some(name)),
         _ => ended(Err(USAGE.to_string())),
     }
 }
@@ -66,6 +76,41 @@ fn field_lines(text: &[u8]) -> Result<(), String> {
 fn field_json(text: &[u8]) -> Result<(), String> {
     let said = field::json(proved, text)?;
     output(format!("{said}\n").as_bytes())
+}
+
+/// Checks an address, over the answers that come in if they are called something.
+fn check(form: &[u8], policy: &[u8], entry: &[u8], name: Option<&Vec<u8>>) -> ExitCode {
+    let said = checked(form, policy, entry, name).and_then(|said| {
+        output((said.printed.join("\n") + "\n").as_bytes())?;
+        Ok(said)
+    });
+    match said {
+        Ok(said) => {
+            said.notes.iter().for_each(|note| eprintln!("{note}"));
+            ExitCode::from(said.status)
+        }
+        Err(reason) => ended(Err(reason)),
+    }
+}
+
+fn checked(
+    form: &[u8],
+    policy: &[u8],
+    entry: &[u8],
+    name: Option<&Vec<u8>>,
+) -> Result<Said, String> {
+    let form = Form::read(form).ok_or("FORM is plain, explain, json or next")?;
+    let mut handed = AddressHanded {
+        policy: policy.to_vec(),
+        entry: entry.to_vec(),
+        complete: form.is_complete(),
+        ..AddressHanded::default()
+    };
+    if let Some(name) = name {
+        let answers = input(handed::Form::Description.most_octets())?;
+        handed = handed.with_file(&String::from_utf8_lossy(name), &answers)?;
+    }
+    address::said(&mut address::code::Proved::default(), form, &handed)
 }
 
 fn write(tags: &[Vec<u8>]) -> Result<(), String> {

@@ -17,13 +17,17 @@
 //! ```
 
 mod answers;
+mod collected;
 mod describe;
 mod described;
 mod escapes;
+mod lines;
 mod make;
 mod tokens;
 mod words;
 
+pub use answers::AnswerLine;
+pub use collected::read_answers;
 pub use describe::{describe, quoted};
 pub use described::{Described, Mistake};
 pub use make::{make, read};

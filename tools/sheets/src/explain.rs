@@ -16,7 +16,7 @@ pub use paragraph::Paragraph;
 pub use told::Told;
 
 /// The line above an explanation.
-const HEAD: &str = "-- why";
+pub const HEAD: &str = "-- why";
 
 /// The explanation of a message's output, below its head line.
 pub fn explain(handed: &Handed) -> String {

@@ -6,7 +6,7 @@ mod fill;
 mod hostile;
 mod message;
 mod repeats;
-mod texts;
+pub(crate) mod texts;
 
 use crate::random::Random;
 

@@ -89,7 +89,7 @@ impl Handed {
 }
 
 /// Each line of a reason with the file's name before it.
-fn in_file(name: &str, reason: &str) -> String {
+pub fn in_file(name: &str, reason: &str) -> String {
     let lines: Vec<String> = reason.lines().map(|l| format!("{name}: {l}")).collect();
     lines.join("\n")
 }
@@ -99,16 +99,22 @@ fn read_description(octets: &[u8]) -> Result<Described, String> {
         let such = "a description has a line such as: author example.com exists supported";
         return Err(format!("it is empty; {such}"));
     }
-    if octets.len() > MOST_DESCRIPTION_OCTETS {
-        return Err("it is over 1,048,576 octets, which no message needs".to_string());
-    }
-    if octets.starts_with(b"\xff\xfe") || octets.starts_with(b"\xfe\xff") {
-        return Err("it is written in UTF-16; save it as UTF-8 or ASCII".to_string());
-    }
+    check_text(octets, "message")?;
     description::read(octets).map_err(|mistake| match is_binary(octets) {
         true => format!("{mistake}\nread as a description; if it is a sheet, say --sheet"),
         false => mistake.to_string(),
     })
+}
+
+/// That octets are no longer than a message or a check needs, and not in UTF-16.
+pub fn check_text(octets: &[u8], of: &str) -> Result<(), String> {
+    if octets.len() > MOST_DESCRIPTION_OCTETS {
+        return Err(format!("it is over 1,048,576 octets, which no {of} needs"));
+    }
+    if octets.starts_with(b"\xff\xfe") || octets.starts_with(b"\xfe\xff") {
+        return Err("it is written in UTF-16; save it as UTF-8 or ASCII".to_string());
+    }
+    Ok(())
 }
 
 /// Whether octets have one that no text has.

@@ -1,10 +1,11 @@
 //! Sheets in every other form than their octets: described, explained, worked
 //! through by hand, generated from a seed; what is said at the desk of a message
-//! that was handed over; and the cases of the comparison and of the program
-//! `messages`.
+//! that was handed over, and of an address check; and the cases of the comparison
+//! and of the program `messages`.
 
 #![forbid(unsafe_code)]
 
+pub mod address;
 pub mod command;
 pub mod description;
 mod domain_words;

@@ -20,7 +20,7 @@ pub fn notes(handed: &Handed, printed: &Printed) -> Vec<String> {
     match printed {
         Printed::Refused(refusal) => vec![refusal_note(handed, *refusal)],
         Printed::Verdict { asked, .. } => match sheet::read(handed.sheet()) {
-            Ok(sheet) => answer_notes(handed, &sheet, asked),
+            Ok(sheet) => answer_notes(Some(&handed.name), &given_names(handed, &sheet), asked),
             Err(_) => Vec::new(),
         },
     }
@@ -33,43 +33,71 @@ fn refusal_note(handed: &Handed, refusal: Refusal) -> String {
     format!("{name}: {place}: refused {number}: {said}")
 }
 
-fn answer_notes(handed: &Handed, sheet: &Sheet, asked: &[Vec<u8>]) -> Vec<String> {
-    let missing = asked.iter().filter(|name| sheet.given(name).is_none());
-    let mut notes: Vec<String> = missing
-        .map(|name| {
-            let (file, name) = (&handed.name, String::from_utf8_lossy(name));
-            format!("no answer in {file} for {name}: read as a failed lookup")
-        })
-        .collect();
-    notes.extend(never_asked(handed, sheet, asked));
-    notes
-}
-
-fn never_asked(handed: &Handed, sheet: &Sheet, asked: &[Vec<u8>]) -> Vec<String> {
-    let asked: HashSet<&[u8]> = asked.iter().map(Vec::as_slice).collect();
+/// The answers of a sheet, by their names.
+fn given_names(handed: &Handed, sheet: &Sheet) -> Vec<GivenName> {
     let places = places(handed.sheet());
     let before = 1 + sheet.message.identifiers.len();
     let answers = places.iter().skip(before).zip(&sheet.answers);
-    let name_of = |name: &[u8]| without_dot(name).to_ascii_lowercase();
-    let never: Vec<String> = answers
-        .map(|(place, given)| (handed.place_words(*place), name_of(given.name)))
-        .filter(|(_, name)| !asked.contains(name.as_slice()))
-        .map(|(place, name)| {
-            let whole = [PREFIX, name.as_slice()].concat();
-            let meant = match asked.contains(whole.as_slice()) {
-                true => format!("; the name asked is {}", brief(&whole)),
-                false => String::new(),
-            };
-            format!(
-                "never asked: {} ({place}){meant}",
-                String::from_utf8_lossy(&name)
-            )
+    answers
+        .map(|(place, given)| GivenName::new(given.name, handed.place_words(*place)))
+        .collect()
+}
+
+/// The name of an answer that was handed over, and where it stands.
+pub(crate) struct GivenName {
+    /// In lower case, without a final dot.
+    name: Vec<u8>,
+    place: String,
+}
+
+impl GivenName {
+    pub(crate) fn new(name: &[u8], place: String) -> GivenName {
+        let name = without_dot(name).to_ascii_lowercase();
+        GivenName { name, place }
+    }
+}
+
+/// Names that were asked and have no answer in a file, if there is one, and answers
+/// that were never asked.
+pub(crate) fn answer_notes(
+    file: Option<&str>,
+    given: &[GivenName],
+    asked: &[Vec<u8>],
+) -> Vec<String> {
+    let names: HashSet<&[u8]> = given.iter().map(|own| own.name.as_slice()).collect();
+    let missing = asked.iter().filter(|name| !names.contains(name.as_slice()));
+    let place = file.map_or(String::new(), |file| format!(" in {file}"));
+    let mut notes: Vec<String> = missing
+        .map(|name| {
+            let name = String::from_utf8_lossy(name);
+            format!("no answer{place} for {name}: read as a failed lookup")
         })
         .collect();
+    notes.extend(never_asked(given, asked));
+    notes
+}
+
+fn never_asked(given: &[GivenName], asked: &[Vec<u8>]) -> Vec<String> {
+    let asked: HashSet<&[u8]> = asked.iter().map(Vec::as_slice).collect();
+    let never = given
+        .iter()
+        .filter(|own| !asked.contains(own.name.as_slice()));
+    let never: Vec<String> = never.map(|own| never_asked_note(own, &asked)).collect();
     let more = never.len().saturating_sub(MOST_NEVER_ASKED);
     let mut shown: Vec<String> = never.into_iter().take(MOST_NEVER_ASKED).collect();
     if more > 0 {
         shown.push(format!("never asked: {more} more"));
     }
     shown
+}
+
+fn never_asked_note(own: &GivenName, asked: &HashSet<&[u8]>) -> String {
+    let GivenName { name, place } = own;
+    let whole = [PREFIX, name.as_slice()].concat();
+    let meant = match asked.contains(whole.as_slice()) {
+        true => format!("; the name asked is {}", brief(&whole)),
+        false => String::new(),
+    };
+    let name = String::from_utf8_lossy(name);
+    format!("never asked: {name} ({place}){meant}")
 }

@@ -32,15 +32,20 @@ pub fn not_listed<T>(words: &Words<T>, value: &[u8]) -> String {
 
 /// That an entry of a rua text, by its number, is not valid.
 pub fn entry_words(number: usize, entry: &[u8], fault: EntryFault) -> String {
-    let why = match fault {
+    let (entry, why) = (quoted(entry), fault_words(fault));
+    format!("entry {number}, {entry}, is not valid: {why}")
+}
+
+/// What is wrong with an entry that is not valid.
+pub fn fault_words(fault: EntryFault) -> String {
+    match fault {
         EntryFault::Empty => "it is empty".to_string(),
         EntryFault::NoColon => "it has no `:`, as in mailto:a@example.com".to_string(),
         EntryFault::NoScheme => "what stands before its `:` is no scheme, as mailto is".to_string(),
         EntryFault::NothingAfterColon => "nothing comes after its `:`".to_string(),
         EntryFault::Percent => "a `%` in it is not followed by two hex digits".to_string(),
         EntryFault::Octet(octet) => format!("{} may not stand in it", octet_words(octet)),
-    };
-    format!("entry {number}, {}, is not valid: {why}", quoted(entry))
+    }
 }
 
 /// Why a text is no policy record for its first part.

@@ -3,6 +3,7 @@
 
 pub mod calls;
 pub mod cases;
+pub mod checks;
 pub mod lent;
 pub mod messages;
 pub mod timing;

@@ -136,12 +136,15 @@ fn refused_answer(octets: &[u8], sheet: &Sheet) -> (String, usize) {
     let own = |name: &[u8]| without_dot(name).eq_ignore_ascii_case(&asked.name);
     let index = sheet.answers.iter().position(|given| own(given.name));
     let bytes = sheet.given(&asked.name).map(|given| given.answer.bytes);
-    let why = over_a_limit(bytes.unwrap_or_default());
-    let name = String::from_utf8_lossy(&asked.name).into_owned();
-    let instead = "hand it in as an error, never as none";
-    let sentence = format!("the answer for {name} {why}; {instead}");
+    let sentence = refused_bytes(&asked.name, bytes.unwrap_or_default());
     let before = 1 + sheet.message.identifiers.len();
     (sentence, before + index.unwrap_or_default())
+}
+
+/// Why the bytes of a name's answer are refused 6.
+pub(crate) fn refused_bytes(name: &[u8], bytes: &[u8]) -> String {
+    let (name, why) = (String::from_utf8_lossy(name), over_a_limit(bytes));
+    format!("the answer for {name} {why}; hand it in as an error, never as none")
 }
 
 fn over_a_limit(bytes: &[u8]) -> String {

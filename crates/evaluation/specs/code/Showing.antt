@@ -9,7 +9,7 @@ use Rattle.book.specs.Book.{Book}
 use Rattle.evaluation.specs.declared.Evaluation.{Evaluation}
 use Rattle.evaluation.specs.code.Machine.{Keeps}
 use Rattle.evaluation.specs.code.View.{view}
-use Rattle.evaluation.specs.StoredAfter.{replies}
+use Rattle.asking.specs.Asking.{replies}
 
 -- what is kept of a book
 unfoldable pub shows : Book → Option Cursor → Keeps

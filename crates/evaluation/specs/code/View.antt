@@ -3,13 +3,12 @@ use mathlib.Core.Path.{_≡_}
 use mathlib.Core.List.{List, []}
 use mathlib.Core.Bool.{Bool, true, false}
 use mathlib.Core.Option.{Option, none as nothing, some as just}
-use Prim.Native.Nat.{ℕ, _*_}
-use lib.Dec.{leb}
+use Prim.Native.Nat.{ℕ}
 use lib.ListN.{getD, replicate}
-use Rattle.octets.specs.Octets.{if_then_else_}
 use Rattle.lookup.specs.Lookup.{Name, Answers}
 use Rattle.txt.specs.declared.Reply.{Reply}
 use Rattle.walk_known.specs.code.Kept.{kept-answers}
+use Rattle.walk_stop.specs.code.KeptStops.{blank-stop}
 use Rattle.verdict.specs.declared.Existence.{Existence}
 use Rattle.verdict_cursor.specs.declared.PlaceKind.{PlaceKind}
 use Rattle.verdict_cursor.specs.code.Cursor.{Cursor, stands, needed, numbers-of}
@@ -52,10 +51,6 @@ numbers-kept (just c) = numbers-of c
 unfoldable pub Numbered : Evaluation → Type 0
 Numbered e = (walk : ℕ) → getD (e .stored) walk 0 ≡ getD (numbers-kept (view e .at)) walk 0
 
--- where a walk's domain begins among the stored ones
-unfoldable pub begin-of-slot : (walk : ℕ) → ℕ
-begin-of-slot walk = if leb walk 16 then 253 * walk else 0
-
 -- an evaluation in which nothing was opened: every octet and every number of it is 0
 unfoldable pub blank : Evaluation
 blank = record {
@@ -72,6 +67,6 @@ blank = record {
     kind = PlaceKind.OwnName;
     ruling = record { begin = record { 0 = 0 }; settings = 0; policy = 0 };
     walk = 0;
-    stop = record { found = false; begin = record { 0 = 0 }; settings = 0; target = record { begin = record { 0 = 0 }; wider = record { 0 = 0 } }; more = record { 0 = 0 } };
+    stop = blank-stop;
   };
 }

@@ -1,27 +1,16 @@
 -- What an accepted answer makes of an evaluation.
 use mathlib.Core.Path.{_≡_}
-use mathlib.Core.List.{List, [], _∷_, _++_}
+use mathlib.Core.List.{[], _∷_, _++_}
 use mathlib.Core.Bool.{false}
-use Prim.Native.Nat.{ℕ, _+_, _≤_, _<_}
-use lib.ListN.{length, drop}
-use Rattle.octets.specs.Octets.{Octets}
+use Prim.Native.Nat.{ℕ, _≤_, _<_}
 use Rattle.domain.specs.declared.Octet.{Octet}
-use Rattle.domain.specs.Domain.{asked-name}
 use Rattle.txt.specs.declared.Reply.{Reply}
-use Rattle.walk_known.specs.code.Kept.{kept-answers}
-use Rattle.alignment_stored.specs.code.Stored.{slot}
 use Rattle.verdict_cursor.specs.code.Cursor.{answered-on}
 use Rattle.verdict_cursor.specs.code.Standing.{OnlyThese}
 use Rattle.verdict_cursor.specs.code.Positions.{place-in}
 use Rattle.evaluation.specs.declared.Evaluation.{Evaluation}
 use Rattle.evaluation.specs.code.View.{replies-now, cursor-now}
 use Rattle.evaluation.specs.GivenBack.{message-now, marked}
-
--- with room for it, one reply more is kept, to the name that a walk and a place mark; else nothing is changed
-pub record KeepsReply (domains : Octets) (numbers : List ℕ) (walk : ℕ) (place : Octet) (r : Reply) (count : ℕ) (before after : List ℕ) : Type 0 where
-  pub replies : count < 136 → kept-answers domains (count + 1) after ≡ kept-answers domains count before ++ ((asked-name (drop (place .0) (slot domains numbers walk)), r) ∷ [])
-  pub size : count < 136 → length after ≡ 408
-  pub no-room : 136 ≤ count → after ≡ before
 
 -- the numbers stored are those of where it stands, and no others
 unfoldable pub NumberedNow : Evaluation → Type 0

@@ -22,17 +22,20 @@ flag-number-requires-4 c κs = search needs
 kind-number-requires : tie.Need-kind-number-requires
 kind-number-requires c κs = search needs
 
-flag-number-requires-5 : tie.Need-flag-number-requires-5
-flag-number-requires-5 c κs = search needs
-
 returns : tie.Need-returns
 unfolding held-of
 returns c =
-    let kind = c .before in
-    let support = kind .before in
+    let support = c .before in
     let existence = support .before in
     let asked = existence .before in
-    rw (c .flag-number5 .ensures, kind .kind-number .ensures, support .flag-number4 .ensures, existence .existence-number .ensures, asked .flag-number3 .ensures, asked .before .flag-number2 .ensures, asked .before .before .flag-number .ensures)
+    rw (
+      c .kind-number .ensures,
+      support .flag-number4 .ensures,
+      existence .existence-number .ensures,
+      asked .flag-number3 .ensures,
+      asked .before .flag-number2 .ensures,
+      asked .before .before .flag-number .ensures,
+    )
 
 pub lend-spec : {M : Type 1} → statement M
 lend-spec =
@@ -44,5 +47,4 @@ lend-spec =
     existence-number-requires
     flag-number-requires-4
     kind-number-requires
-    flag-number-requires-5
     returns)

@@ -1,18 +1,15 @@
 -- A place as an evaluation keeps it, read. Every value is read as a place.
-use mathlib.Core.Bool.{Bool, true, false}
 use Prim.Native.Nat.{ℕ}
 use lib.Dec.{eqb}
 use Rattle.octets.specs.Octets.{if_then_else_}
 use Rattle.policy.specs.declared.Policy.{Policy}
 use Rattle.txt_codes.specs.code.Codes.{settings-of}
 use Rattle.verdict.specs.declared.AppliedPolicy.{AppliedPolicy}
-use Rattle.walk_progress.specs.declared.Applicable.{Applicable}
-use Rattle.walk_progress.specs.declared.Stop.{Stop}
+use Rattle.walk_stop.specs.code.KeptStops.{stop-in}
 use Rattle.verdict_cursor.specs.declared.Ruling.{Ruling}
 use Rattle.verdict_cursor.specs.declared.Place.{Place}
 use Rattle.verdict_cursor.specs.declared.PlaceKind.{PlaceKind}
 use Rattle.verdict_cursor.specs.declared.KeptRuling.{KeptRuling}
-use Rattle.verdict_cursor.specs.declared.KeptStop.{KeptStop}
 use Rattle.verdict_cursor.specs.declared.Position.{Position}
 
 unfoldable pub policy-in : ℕ → AppliedPolicy
@@ -24,13 +21,6 @@ policy-in n =
 
 unfoldable pub ruling-in : KeptRuling → Ruling
 ruling-in k = record { begin = k .begin; settings = settings-of (k .settings); policy = policy-in (k .policy) }
-
-unfoldable pub last-in : KeptStop → (found : Bool) → Applicable
-last-in k false = Applicable.Nothing
-last-in k true = Applicable.Record (k .begin) (settings-of (k .settings))
-
-unfoldable pub stop-in : KeptStop → Stop
-stop-in k = record { last = last-in k (k .found); target = k .target; more = k .more }
 
 unfoldable pub place-by : Position → PlaceKind → Place
 place-by q PlaceKind.OwnName = Place.OwnName

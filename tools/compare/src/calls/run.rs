@@ -2,15 +2,10 @@
 
 use super::code::Calls;
 use super::tally::Tally;
+use crate::alike::alike;
 use evaluator::book::{Book, SCRATCH_OCTETS};
 use sheets::programs::calls::{AnswerCall, Call, Told};
-use sheets::programs::lent::FILL;
-use sheets::written::hex;
 
-/// Octets behind the lent memory, which nobody may write.
-pub const BEHIND: usize = 16;
-/// As many octets of lent memory are shown.
-const SHOWN: usize = 40;
 /// Of so many calls with lent memory one is made before with too little of it.
 const SHORT_EVERY: u64 = 8;
 
@@ -94,19 +89,9 @@ impl<C: Calls> Run<C> {
 
     fn both(&mut self, call: &Call) -> Result<Told, String> {
         let before = self.code.state();
-        let mut lent = vec![FILL; call.lent() + BEHIND];
-        let mut expected_lent = lent.clone();
-        let part = lent.get_mut(..call.lent()).unwrap_or_default();
-        let told = self.code.make(call, part)?;
-        let part = expected_lent.get_mut(..call.lent()).unwrap_or_default();
-        let expected = call.make(&mut self.book, part);
-        if told != expected {
-            let (told, expected) = (told.to_string(), expected.to_string());
-            return Err(two("the answers differ", &told, &expected));
-        }
-        if lent != expected_lent {
-            return Err(memory(&lent, &expected_lent));
-        }
+        let code = |lent: &mut [u8]| self.code.make(call, lent);
+        let book = |lent: &mut [u8]| call.make(&mut self.book, lent);
+        let (told, _) = alike(call.lent(), code, book)?;
         if matches!(told, Told::Refused(_)) && self.code.state() != before {
             return Err(format!("{told}, and yet the evaluation was changed"));
         }
@@ -117,20 +102,4 @@ impl<C: Calls> Run<C> {
         let lines: Vec<String> = self.calls.iter().map(Call::to_string).collect();
         format!("{what}\n-- the calls\n{}\n", lines.join("\n"))
     }
-}
-
-/// Lent memory from the first octet on in which it differs.
-fn memory(lent: &[u8], expected: &[u8]) -> String {
-    let mut pairs = lent.iter().zip(expected);
-    let at = pairs.position(|(own, other)| own != other).unwrap_or(0);
-    let shown = |octets: &[u8]| {
-        let shown = octets.get(at..).unwrap_or_default();
-        hex(shown.get(..SHOWN).unwrap_or(shown))
-    };
-    let what = format!("the lent memory differs at octet {at}");
-    two(&what, &shown(lent), &shown(expected))
-}
-
-fn two(what: &str, given: &str, expected: &str) -> String {
-    format!("{what}\n-- the proved code\n{given}\n-- the reference\n{expected}")
 }

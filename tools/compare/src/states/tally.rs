@@ -1,34 +1,28 @@
-//! What the calls on the states gave.
+//! What the calls gave.
 
 use std::collections::BTreeMap;
 use std::fmt;
 
-/// What must come.
-const WANTED: [&str; 14] = [
-    "open accepted",
-    "open refused",
-    "add accepted",
-    "add refused",
-    "next ask",
-    "next verdict",
-    "next refused",
-    "answer accepted",
-    "answer refused",
-    "result verdict",
-    "result refused",
-    "field accepted",
-    "field refused",
-    "finding verdict",
-];
-
-#[derive(Clone, Debug, Default)]
+#[derive(Clone, Debug)]
 pub struct Tally {
-    pub states: u64,
-    /// By the call's word and the kind of what it gives.
+    /// What the calls were made on.
+    what: &'static str,
+    /// What must come, by the call's word and the kind of what it gives.
+    wanted: &'static [&'static str],
+    pub made: u64,
     given: BTreeMap<String, u64>,
 }
 
 impl Tally {
+    pub fn new(what: &'static str, wanted: &'static [&'static str]) -> Tally {
+        Tally {
+            what,
+            wanted,
+            made: 0,
+            given: BTreeMap::new(),
+        }
+    }
+
     pub fn add(&mut self, word: &str, kind: u8) {
         let kinds = ["accepted", "ask", "verdict", "refused"];
         let kind = kinds.get(usize::from(kind)).copied().unwrap_or("unknown");
@@ -37,11 +31,9 @@ impl Tally {
 
     /// The error is of an answer that never came.
     pub fn complete(&self) -> Result<(), String> {
-        match WANTED
-            .iter()
-            .find(|wanted| !self.given.contains_key(**wanted))
-        {
-            Some(wanted) => Err(format!("no {wanted} in {} states", self.states)),
+        let missing = |wanted: &&&str| !self.given.contains_key(**wanted);
+        match self.wanted.iter().find(missing) {
+            Some(wanted) => Err(format!("no {wanted} in {} {}", self.made, self.what)),
             None => Ok(()),
         }
     }
@@ -55,7 +47,7 @@ impl fmt::Display for Tally {
             .iter()
             .map(|(what, count)| format!("{count} {what}"));
         let given: Vec<String> = given.collect();
-        let states = self.states;
-        write!(out, "{states} states, {calls} calls ({})", given.join(", "))
+        let (made, what) = (self.made, self.what);
+        write!(out, "{made} {what}, {calls} calls ({})", given.join(", "))
     }
 }

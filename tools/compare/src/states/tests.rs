@@ -3,13 +3,14 @@
 use std::cell::Cell;
 
 use super::code::{Interface, Proved};
-use super::compare;
+use super::hand::Steps;
 use super::lent::Lent;
 use super::tally::Tally;
+use super::{compare, WANTED};
 use crate::calls::tests::twin::{Twin, Wrong as WrongCalls};
 use crate::wrongs::wrongs;
-use waslidhaj::calls;
 use waslidhaj::raw::{self, Called, Found, Given, State, Written};
+use waslidhaj::NAME_OCTETS;
 
 wrongs! {
     RefusedOpenChanges
@@ -72,8 +73,41 @@ impl Interface for Spoilt {
         self.changed(RefusedAddChanges, Proved.add(state, kind, outcome, domain))
     }
 
+    fn field(&self, state: State, out: &mut [u8]) -> Given {
+        let given = Proved.field(state, out);
+        let past = out.get_mut(given.length).filter(|_| given.length > 0);
+        if let (FieldPastItsEnd, Some(past)) = (self.0, past) {
+            *past = 0;
+        }
+        given
+    }
+
+    fn domain(&self, state: State, begin: usize, out: &mut [u8]) -> Written {
+        let written = Proved.domain(state, begin, out);
+        match (self.0, out.first_mut()) {
+            (ShortDomainWritten, Some(first)) if written.refusal.number == 10 => *first = 0,
+            _ => {}
+        }
+        written
+    }
+
+    fn finding(&self, state: State) -> Found {
+        let mut found = Proved.finding(state);
+        if self.is(FindingWithBoth) && found.kind == raw::VERDICT {
+            found.refusal.number = 7;
+        }
+        found
+    }
+}
+
+impl Steps for Spoilt {
+    type Value = State;
+    type Called = Called;
+
+    const NAME_OCTETS: usize = NAME_OCTETS;
+
     fn next(&self, state: State) -> Called {
-        let mut called = calls::next(state);
+        let mut called = Proved.next(state);
         if called.given.kind == raw::ASK {
             match self.0 {
                 AskWithALength => called.given.length = 1,
@@ -102,33 +136,25 @@ impl Interface for Spoilt {
         self.changed(RefusedAnswerChanges, called)
     }
 
-    fn result(&self, state: State) -> Given {
-        let given = Proved.result(state);
+    fn result(&self, state: State) -> Called {
+        let mut called = Proved.result(state);
         match self.0 {
-            ResultAccepted if given.kind == raw::REFUSED => Given::default(),
+            ResultAccepted if called.given.kind == raw::REFUSED => called.given = Given::default(),
             OnceThisOnceThat => {
                 self.1.set(self.1.get() + 1);
                 let refusal = raw::Refusal {
                     number: 7,
                     place: self.1.get() % 2,
                 };
-                Given {
+                called.given = Given {
                     kind: raw::REFUSED,
                     refusal,
                     ..Given::default()
-                }
+                };
             }
-            _ => given,
+            _ => {}
         }
-    }
-
-    fn field(&self, state: State, out: &mut [u8]) -> Given {
-        let given = Proved.field(state, out);
-        let past = out.get_mut(given.length).filter(|_| given.length > 0);
-        if let (FieldPastItsEnd, Some(past)) = (self.0, past) {
-            *past = 0;
-        }
-        given
+        called
     }
 
     fn name(&self, state: State, walk: usize, place: usize, out: &mut [u8]) -> Written {
@@ -140,23 +166,6 @@ impl Interface for Spoilt {
             _ => {}
         }
         written
-    }
-
-    fn domain(&self, state: State, begin: usize, out: &mut [u8]) -> Written {
-        let written = Proved.domain(state, begin, out);
-        match (self.0, out.first_mut()) {
-            (ShortDomainWritten, Some(first)) if written.refusal.number == 10 => *first = 0,
-            _ => {}
-        }
-        written
-    }
-
-    fn finding(&self, state: State) -> Found {
-        let mut found = Proved.finding(state);
-        if self.is(FindingWithBoth) && found.kind == raw::VERDICT {
-            found.refusal.number = 7;
-        }
-        found
     }
 }
 
@@ -190,7 +199,7 @@ fn an_opening_that_does_not_begin_afresh() {
 
 #[test]
 fn an_answer_that_never_came() {
-    let mut tally = Tally::default();
+    let mut tally = Tally::new("states", &WANTED);
     tally.add("open", raw::ACCEPTED);
     let said = tally.complete();
     assert_eq!(said, Err("no open refused in 0 states".to_string()));

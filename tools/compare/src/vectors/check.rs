@@ -2,7 +2,8 @@
 
 use std::fmt;
 
-use crate::calls::{Calls, Run, BEHIND};
+use crate::alike::BEHIND;
+use crate::calls::{Calls, Run};
 use evaluator::domain::Domain;
 use evaluator::report;
 use records::agreement;

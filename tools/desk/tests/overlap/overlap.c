@@ -1,6 +1,6 @@
 /* overlap: calls with lent memory that overlaps, each beside the same call with memory that is apart. Both must give the same and
- * leave the same, and nothing outside the lent output may change. Then NULL for every pointer, and an opening over a used state.
- * It prints how many calls were compared, or the first difference, and ends with 1 then. */
+ * leave the same, and nothing outside the lent output may change. Then a check that lies in what is lent, NULL for every pointer,
+ * and an opening over a used state. It prints how many calls were compared, or the first difference, and ends with 1 then. */
 #include <stdio.h>
 #include <stdlib.h>
 #include <string.h>
@@ -75,6 +75,21 @@ static int same_state(const waslidhaj_state *first, const waslidhaj_state *secon
          memcmp((const uint8_t *)first + on, (const uint8_t *)second + on, sizeof *first - on) == 0;
 }
 
+static int same_check_given(waslidhaj_check_given first, waslidhaj_check_given second) {
+  return first.kind == second.kind && first.agreement == second.agreement && first.walk == second.walk &&
+         first.place == second.place && first.begin == second.begin && first.length == second.length &&
+         first.count == second.count && same_refusal(first.refusal, second.refusal);
+}
+
+/* Likewise: padding is before the count and after two flags. */
+static int same_check(const waslidhaj_check *first, const waslidhaj_check *second) {
+  size_t end = offsetof(waslidhaj_check, kept) + sizeof first->kept;
+  size_t on = offsetof(waslidhaj_check, record_begin);
+  return memcmp(first, second, end) == 0 && first->count == second->count && first->point_kind == second->point_kind &&
+         first->organization == second->organization && first->found == second->found &&
+         memcmp((const uint8_t *)first + on, (const uint8_t *)second + on, sizeof *first - on) == 0;
+}
+
 /* ---- Answers ---- */
 
 static const char NAME[] = "_dmarc.example.com";
@@ -107,33 +122,62 @@ static waslidhaj_state asked_of(const void *author, size_t length) {
 
 static waslidhaj_state asked(void) { return asked_of("example.com", 11); }
 
+/* What is answered: an evaluation or else a check, the name that it asks, and the most octets of a name. */
+typedef struct {
+  const waslidhaj_state *state;
+  const waslidhaj_check *check;
+  const void *name;
+  size_t name_length, longest;
+} subject;
+
+/* Where the texts of an answer lie apart. */
+static uint8_t *const apart_bytes = apart + 16384;
+static uint8_t *const apart_name = apart + 24576;
+
 /* One answer, the bytes or the name shifted against the scratch. */
-static void answer_at(waslidhaj_state state, const void *name, size_t name_length, long name_on, uint8_t status,
-                      const uint8_t *bytes, size_t length, long bytes_on, size_t scratch_length) {
+static void answer_at(subject of, long name_on, uint8_t status, const uint8_t *bytes, size_t length, long bytes_on,
+                      size_t scratch_length) {
   static waslidhaj_called first, second;
+  static waslidhaj_check_called of_check;
+  waslidhaj_check_given given;
+  waslidhaj_check after;
   const uint8_t *own_name, *own_bytes;
   paint();
   own_bytes = place(bytes, length, bytes_on);
-  own_name = place(name, name_length, name_on);
-  memcpy(before, own_bytes, length); /* the name may lie over the bytes: both calls read what then stands there */
-  memcpy(before + length, own_name, name_length);
-  memcpy(apart + 16384, before, length);
-  memcpy(apart + 24576, before + length, name_length);
+  own_name = place(of.name, of.name_length, name_on);
+  memcpy(apart_bytes, own_bytes, length); /* the name may lie over the bytes: both calls read what then stands there */
+  memcpy(apart_name, own_name, of.name_length);
   keep(scratch_length);
-  first = waslidhaj_answer_apart(state, apart + 24576, name_length, status, apart + 16384, length, apart, scratch_length);
-  second = waslidhaj_answer(state, own_name, name_length, status, own_bytes, length, arena + OUT, scratch_length);
-  if (!same_state(&first.state, &second.state))
-    differs("another state is given");
-  compare(same_given(first.given, second.given), scratch_length);
+  if (of.state != NULL) {
+    first = waslidhaj_answer_apart(*of.state, apart_name, of.name_length, status, apart_bytes, length, apart, scratch_length);
+    second = waslidhaj_answer(*of.state, own_name, of.name_length, status, own_bytes, length, arena + OUT, scratch_length);
+    if (!same_state(&first.state, &second.state))
+      differs("another state is given");
+    compare(same_given(first.given, second.given), scratch_length);
+    return;
+  }
+  after = *of.check;
+  of_check = waslidhaj_check_answer_by_value(after, apart_name, of.name_length, status, apart_bytes, length, apart,
+                                             scratch_length);
+  given = waslidhaj_check_answer(&after, own_name, of.name_length, status, own_bytes, length, arena + OUT, scratch_length);
+  if (!same_check(&of_check.check, &after))
+    differs("another check is left");
+  compare(same_check_given(of_check.given, given), scratch_length);
 }
 
-static void answers(void) {
+/* The same of a name of so many octets. */
+static subject longer(subject of, const uint8_t *name, size_t length) {
+  of.name = name;
+  of.name_length = length;
+  return of;
+}
+
+static void answers(subject of) {
   static const char *const record[] = {"v=DMARC1; p=re", "ject; rua=mailto:a@example.com", NULL};
   static const char *const other[] = {"some other text that is no record, of more octets than a few", "and more", NULL};
   static uint8_t texts[5][4097];
-  static uint8_t long_name[300];
+  static uint8_t long_name[600];
   size_t lengths[5];
-  waslidhaj_state state = asked();
   size_t index;
   lengths[0] = put_record(texts[0], put_record(texts[0], put_record(texts[0], 0, other), record), other);
   memcpy(texts[1], "TX\x0f\xfc", 4); /* 4,092 empty strings */
@@ -152,54 +196,80 @@ static void answers(void) {
   doing = "an answer's bytes and the scratch";
   for (index = 0; index < 5; index++)
     for (shift = -FAR; shift <= FAR; shift += index == 0 || index == 2 ? 1 : 7)
-      answer_at(state, NAME, 18, 2 * FAR, WASLIDHAJ_RECORDS, texts[index], lengths[index], shift, 4096);
+      answer_at(of, 2 * FAR, WASLIDHAJ_RECORDS, texts[index], lengths[index], shift, 4096);
   doing = "an answer's bytes and a longer or shorter scratch";
   for (index = 0; index < 5; index++)
     for (shift = -FAR; shift <= FAR; shift += 31) {
-      answer_at(state, NAME, 18, 2 * FAR, WASLIDHAJ_RECORDS, texts[index], lengths[index], shift, 4095);
-      answer_at(state, NAME, 18, 2 * FAR, WASLIDHAJ_RECORDS, texts[index], lengths[index], shift, 5000);
-      answer_at(state, NAME, 18, 2 * FAR, WASLIDHAJ_NO_RECORDS, texts[index], lengths[index], shift, 4096);
-      answer_at(state, NAME, 18, 2 * FAR, WASLIDHAJ_ERROR, texts[index], lengths[index], shift, 4096);
+      answer_at(of, 2 * FAR, WASLIDHAJ_RECORDS, texts[index], lengths[index], shift, 4095);
+      answer_at(of, 2 * FAR, WASLIDHAJ_RECORDS, texts[index], lengths[index], shift, 5000);
+      answer_at(of, 2 * FAR, WASLIDHAJ_NO_RECORDS, texts[index], lengths[index], shift, 4096);
+      answer_at(of, 2 * FAR, WASLIDHAJ_ERROR, texts[index], lengths[index], shift, 4096);
     }
   doing = "an answer's name and the scratch";
   for (shift = -FAR; shift <= FAR; shift++) {
-    answer_at(state, NAME, 18, shift, WASLIDHAJ_RECORDS, texts[0], lengths[0], 2 * FAR, 4096);
-    answer_at(state, NAME, 18, shift, WASLIDHAJ_RECORDS, texts[0], lengths[0], 3, 4096);
+    answer_at(of, shift, WASLIDHAJ_RECORDS, texts[0], lengths[0], 2 * FAR, 4096);
+    answer_at(of, shift, WASLIDHAJ_RECORDS, texts[0], lengths[0], 3, 4096);
   }
   for (shift = -FAR; shift <= FAR; shift += 31) {
-    answer_at(state, long_name, 261, shift, WASLIDHAJ_RECORDS, texts[0], lengths[0], 2 * FAR, 4096);
-    answer_at(state, long_name, 262, shift, WASLIDHAJ_RECORDS, texts[0], lengths[0], 2 * FAR, 4096);
-    answer_at(state, long_name, sizeof long_name, shift, WASLIDHAJ_RECORDS, texts[3], lengths[3], shift, 4095);
+    answer_at(longer(of, long_name, of.longest + 1), shift, WASLIDHAJ_RECORDS, texts[0], lengths[0], 2 * FAR, 4096);
+    answer_at(longer(of, long_name, of.longest + 2), shift, WASLIDHAJ_RECORDS, texts[0], lengths[0], 2 * FAR, 4096);
+    answer_at(longer(of, long_name, sizeof long_name), shift, WASLIDHAJ_RECORDS, texts[3], lengths[3], shift, 4095);
   }
 }
 
-/* The longest names: 253 octets, and 260 of a state that no call gave; with a final dot and without. All are accepted. */
-static void long_names(void) {
+/* The kind of what is given for an error. */
+static unsigned error_kind(subject of) {
+  const uint8_t *name = (const uint8_t *)of.name;
+  waslidhaj_check check;
+  if (of.state != NULL)
+    return waslidhaj_answer(*of.state, name, of.name_length, WASLIDHAJ_ERROR, NULL, 0, arena, 4096).given.kind;
+  check = *of.check;
+  return waslidhaj_check_answer(&check, name, of.name_length, WASLIDHAJ_ERROR, NULL, 0, arena, 4096).kind;
+}
+
+/* A long name by any shift, with a final dot and without: it is accepted. */
+static void long_name_at(subject of, size_t expected) {
   static const uint8_t bytes[] = "TX\0\23\22v=DMARC1; p=reject";
-  uint8_t author[246], name[WASLIDHAJ_NAME_OCTETS + 1];
-  waslidhaj_state state;
-  size_t index, length, dotted;
+  static uint8_t name[WASLIDHAJ_CHECK_NAME_OCTETS + 1];
+  size_t dotted;
   doing = "a long name and the scratch";
+  if (of.name_length != expected)
+    differs("the name has another length");
+  memcpy(name, of.name, of.name_length);
+  name[of.name_length] = '.';
+  for (dotted = 0; dotted < 2; dotted++) {
+    of = longer(of, name, expected + dotted);
+    for (shift = -FAR; shift <= FAR; shift += 31)
+      answer_at(of, shift, WASLIDHAJ_RECORDS, bytes, sizeof bytes - 1, 2 * FAR, 4096);
+    if (error_kind(of) != WASLIDHAJ_ACCEPTED)
+      differs("the name is refused");
+  }
+}
+
+/* The name that a state asks. */
+static subject of_state(const waslidhaj_state *state) {
+  static uint8_t name[WASLIDHAJ_NAME_OCTETS];
+  subject of = {NULL, NULL, NULL, 0, WASLIDHAJ_NAME_OCTETS};
+  of.state = state;
+  of.name = name;
+  of.name_length = waslidhaj_name(*state, 0, 0, name, sizeof name).length;
+  return of;
+}
+
+/* The longest names: 253 octets, and 260 of a state that no call gave. */
+static void long_names(void) {
+  uint8_t author[246];
+  waslidhaj_state state;
+  size_t index;
   for (index = 0; index < sizeof author; index++)
     author[index] = index % 2 == 0 || index == sizeof author - 1 ? 'a' : '.';
   state = asked_of(author, sizeof author);
-  for (index = 0; index < 2; index++) {
-    length = waslidhaj_name(state, 0, 0, name, sizeof name).length;
-    if (length != (index == 0 ? WASLIDHAJ_DOMAIN_OCTETS : WASLIDHAJ_NAME_OCTETS))
-      differs("the name has another length");
-    name[length] = '.';
-    for (dotted = 0; dotted < 2; dotted++)
-      for (shift = -FAR; shift <= FAR; shift += 31) {
-        answer_at(state, name, length + dotted, shift, WASLIDHAJ_RECORDS, bytes, sizeof bytes - 1, 2 * FAR, 4096);
-        if (waslidhaj_answer(state, name, length + dotted, WASLIDHAJ_ERROR, NULL, 0, arena, 4096).given.kind !=
-            WASLIDHAJ_ACCEPTED)
-          differs("the name is refused");
-      }
-    memset(state.domains + sizeof author, 'b', WASLIDHAJ_DOMAIN_OCTETS - sizeof author);
-    for (dotted = 0; dotted < sizeof state.numbers / sizeof *state.numbers; dotted++)
-      if (state.numbers[dotted] == sizeof author)
-        state.numbers[dotted] = WASLIDHAJ_DOMAIN_OCTETS;
-  }
+  long_name_at(of_state(&state), WASLIDHAJ_DOMAIN_OCTETS);
+  memset(state.domains + sizeof author, 'b', WASLIDHAJ_DOMAIN_OCTETS - sizeof author);
+  for (index = 0; index < sizeof state.numbers / sizeof *state.numbers; index++)
+    if (state.numbers[index] == sizeof author)
+      state.numbers[index] = WASLIDHAJ_DOMAIN_OCTETS;
+  long_name_at(of_state(&state), WASLIDHAJ_NAME_OCTETS);
 }
 
 /* A record that lies in the scratch by any shift is judged: the message is rejected. */
@@ -390,6 +460,134 @@ static void records(void) {
   }
 }
 
+/* ---- Checks ---- */
+
+static waslidhaj_check_given started(waslidhaj_check *check, const void *policy, size_t policy_length, const char *entry) {
+  return waslidhaj_check_start(check, (const uint8_t *)policy, policy_length, (const uint8_t *)entry, strlen(entry));
+}
+
+/* The name that a check asks: its first, or the confirming one, no other having a record. */
+static subject of_check(waslidhaj_check *check, int confirming) {
+  static uint8_t name[WASLIDHAJ_CHECK_NAME_OCTETS];
+  subject of = {NULL, NULL, NULL, 0, WASLIDHAJ_CHECK_NAME_OCTETS};
+  int turns = WASLIDHAJ_CHECK_NAMES;
+  waslidhaj_check_given given;
+  of.check = check;
+  of.name = name;
+  do {
+    given = waslidhaj_check_next(check);
+    of.name_length = waslidhaj_check_name(check, given.walk, given.place, name, sizeof name).length;
+    if (given.kind != WASLIDHAJ_ASK || turns-- == 0)
+      differs("no name is asked");
+    if (!confirming || given.walk == 2)
+      return of;
+    given = waslidhaj_check_answer(check, name, of.name_length, WASLIDHAJ_NO_RECORDS, NULL, 0, arena, 4096);
+  } while (given.kind == WASLIDHAJ_ACCEPTED);
+  differs("an answer is refused");
+  return of;
+}
+
+/* Every answer, and the longest names: 253 octets, and 522 of a check that no call gave. */
+static void check_answers(void) {
+  char policy[118], entry[9 + 119 + 1];
+  waslidhaj_check check;
+  size_t index;
+  memset(&check, 0, sizeof check);
+  started(&check, "a.test", 6, "mailto:x@example.com");
+  answers(of_check(&check, 0));
+  answers(of_check(&check, 1));
+  for (index = 0; index < sizeof policy; index++)
+    policy[index] = index % 2 == 0 || index == sizeof policy - 1 ? 'a' : '.';
+  for (index = 0; index < sizeof entry - 1; index++)
+    entry[index] = index % 2 == 0 ? '.' : 'b';
+  memcpy(entry, "mailto:x@", 9);
+  entry[index] = 0;
+  started(&check, policy, sizeof policy, entry);
+  long_name_at(of_check(&check, 1), WASLIDHAJ_DOMAIN_OCTETS);
+  memset(check.domains, 'c', sizeof check.domains);
+  check.numbers[0] = check.numbers[1] = WASLIDHAJ_DOMAIN_OCTETS;
+  long_name_at(of_check(&check, 1), WASLIDHAJ_CHECK_NAME_OCTETS);
+}
+
+/* Whether the arena is as before, but for a scratch as it is apart, and the check that lies over it. */
+static void compare_check(const waslidhaj_check *first, const waslidhaj_check *check, size_t scratch_length) {
+  compared++;
+  if (!same_check(first, check))
+    differs("another check is left");
+  memcpy(before + OUT, apart, scratch_length);
+  memcpy(before + OUT + shift, check, sizeof *check);
+  if (memcmp(arena, before, sizeof arena) != 0)
+    differs("memory beside the check is written");
+}
+
+/* A check that lies in the scratch, or a text that lies in the check, is read as it was handed over; the check is written last. */
+static void check_at(const waslidhaj_check *from, subject of) {
+  static const char *const record[] = {"v=DMARC1; rua=mailto:a@example.com", NULL};
+  static uint8_t bytes[64];
+  waslidhaj_check *check = (waslidhaj_check *)(void *)(arena + OUT + shift);
+  waslidhaj_check_called first;
+  waslidhaj_check_given given;
+  size_t length = put_record(bytes, 0, record), free_octet = offsetof(waslidhaj_check, domains) + 60, size;
+  for (size = 4095; size <= 4096; size++) {
+    paint();
+    memcpy(check, from, sizeof *check);
+    memcpy((uint8_t *)check + free_octet, of.name, of.name_length); /* past the end of the policy domain */
+    keep(size);
+    first = waslidhaj_check_answer_by_value(*check, (const uint8_t *)of.name, of.name_length, WASLIDHAJ_RECORDS, bytes, length,
+                                            apart, size);
+    given = waslidhaj_check_answer(check, (uint8_t *)check + free_octet, of.name_length, WASLIDHAJ_RECORDS, bytes, length,
+                                   arena + OUT, size);
+    if (!same_check_given(first.given, given) || (given.kind == WASLIDHAJ_ACCEPTED) != (size == 4096))
+      differs("another thing is given");
+    compare_check(&first.check, check, size);
+  }
+}
+
+/* A policy domain and an entry in any octets of the check that is started over them. */
+static void start_at(size_t on) {
+  static const char text[] = "b.testmailto:x@c.test";
+  waslidhaj_check *check = (waslidhaj_check *)(void *)(arena + OUT);
+  waslidhaj_check_called first;
+  waslidhaj_check_given given;
+  paint();
+  place(text, sizeof text - 1, (long)on);
+  keep(0);
+  first = waslidhaj_check_start_by_value(*check, (const uint8_t *)text, 6, (const uint8_t *)text + 6, 15);
+  given = waslidhaj_check_start(check, (uint8_t *)check + on, 6, (uint8_t *)check + on + 6, 15);
+  if (!same_check_given(first.given, given) || given.kind != WASLIDHAJ_ACCEPTED)
+    differs("another thing is given");
+  compare_check(&first.check, check, 0);
+}
+
+/* A name that is written over its own check. */
+static void name_at(const waslidhaj_check *from, subject of, size_t on) {
+  waslidhaj_check *check = (waslidhaj_check *)(void *)arena;
+  waslidhaj_written written;
+  memcpy(check, from, sizeof *check);
+  written = waslidhaj_check_name(check, 2, 0, arena + on, of.name_length);
+  compared++;
+  if (written.length != of.name_length || memcmp(arena + on, of.name, of.name_length) != 0)
+    differs("another name is written");
+}
+
+static void checks(void) {
+  waslidhaj_check check;
+  subject of;
+  size_t on;
+  memset(&check, 0, sizeof check);
+  started(&check, "a.test", 6, "mailto:x@example.com");
+  of = of_check(&check, 1);
+  doing = "a check and the scratch";
+  for (shift = -FAR / 8 * 8; shift <= FAR; shift += 8)
+    check_at(&check, of);
+  doing = "a text and its check";
+  shift = 0;
+  for (on = 0; on + 21 <= sizeof check; on++)
+    start_at(on);
+  for (on = 0; on <= sizeof check; on++)
+    name_at(&check, of, on);
+}
+
 /* ---- NULL, ranges, an opening over a used state ---- */
 
 static void nothing_lent(void) {
@@ -401,8 +599,10 @@ static void nothing_lent(void) {
   waslidhaj_settings settings = {2, 3, 3, 0, 0, 0, 0};
   waslidhaj_list list = waslidhaj_new_list();
   waslidhaj_entry entry;
+  waslidhaj_check check;
   int same = 1;
   memset(&entry, 0, sizeof entry);
+  memset(&check, 0, sizeof check);
   entry.finding.result = WASLIDHAJ_RESULT_PASS;
   doing = "NULL and length 0";
   shift = 0;
@@ -433,7 +633,15 @@ static void nothing_lent(void) {
   same &= waslidhaj_write_record(settings, NULL, 0, NULL, 0).refusal.place == 18;
   same &= waslidhaj_write_record(settings, NULL, 0, arena, 18).length == 18;
   same &= waslidhaj_read_record(NULL, 0).is_record == 0;
-  compared += 20;
+  same &= waslidhaj_check_start(&check, NULL, 0, NULL, 0).refusal.number == 11;
+  same &= waslidhaj_check_start(&check, (const uint8_t *)"a", 1, NULL, 0).refusal.number == 23;
+  same &= started(&check, "a", 1, "mailto:x@b").kind == WASLIDHAJ_ACCEPTED;
+  same &= waslidhaj_check_next(&check).kind == WASLIDHAJ_ASK;
+  same &= waslidhaj_check_answer(&check, NULL, 0, 0, NULL, 0, NULL, 0).refusal.number == 5;
+  same &= waslidhaj_check_answer(&check, (const uint8_t *)"_dmarc.a", 8, 0, NULL, 0, NULL, 0).refusal.number == 10;
+  same &= waslidhaj_check_answer(&check, (const uint8_t *)"_dmarc.a", 8, 0, NULL, 0, arena, 4096).kind == WASLIDHAJ_ACCEPTED;
+  same &= waslidhaj_check_name(&check, 0, 0, NULL, 0).refusal.place == 8;
+  compared += 28;
   if (!same)
     differs("another thing is given");
 }
@@ -500,14 +708,17 @@ static void opened_again(void) {
 }
 
 int main(void) {
+  waslidhaj_state state = asked();
   ranges();
-  answers();
+  answers(of_state(&state));
   long_names();
   verdicts();
   sheets();
   rows();
   file_names();
   records();
+  check_answers();
+  checks();
   nothing_lent();
   opened_again();
   printf("%zu calls, all the same\n", compared);

@@ -13,7 +13,7 @@
 
 #include "waslidhaj.h"
 
-enum { STATES = 800, STACK = 512 * 1024, PAINT = 0xa5, SHEET = 65536 };
+enum { STATES = 800, CHECKS = 400, STACK = 512 * 1024, PAINT = 0xa5, SHEET = 65536 };
 
 /* ---- Input ---- */
 
@@ -30,9 +30,23 @@ typedef struct {
   size_t name_length;
 } stage;
 
+/* A check, likewise. */
+typedef struct {
+  waslidhaj_check check;
+  size_t walk, place;
+  uint8_t name[WASLIDHAJ_CHECK_NAME_OCTETS];
+  size_t name_length;
+} check_stage;
+
+/* The domains of a check that asks as many names as any can. */
+#define POLICY "a.b.c.d.e.f.g.h.one"
+#define HOST "a.b.c.d.e.f.g.h.two"
+
 static stage stages[STATES];
 static size_t stage_count;
-static text answers[9], policies[8], sheets[8];
+static check_stage checks[CHECKS];
+static size_t check_count;
+static text answers[12], policies[11], sheets[8], entries[3];
 static text domain_longest, rua_longest;
 
 static uint64_t seed = 1;
@@ -99,6 +113,16 @@ static void make_policies(void) {
   put_text(&policies[6], "v=DMARC1; p=reject; sp=quarantine; np=none; adkim=s; aspf=s; psd=n; t=y; rua=mailto:a@example.com");
   while (policies[7].length < 65000) /* longer than any answer */
     put(&policies[7], policies[7].length == 0 ? "v=DMARC1;" : "b=xy;    ", 9);
+  put_text(&policies[8], "v=DMARC1; rua=mailto:a@" HOST);
+  while (policies[8].length < 3960)
+    put_text(&policies[8], ",mailto:a@" HOST);
+  put_text(&policies[9], "v=DMARC1; rua=");
+  while (policies[9].length < 4000)
+    put_text(&policies[9], ",");
+  put_text(&policies[10], "v=DMARC1; rua=mailto:");
+  while (policies[10].length < 3960)
+    put_text(&policies[10], "@");
+  put_text(&policies[10], "a@" HOST);
 }
 
 static void make_answers(void) {
@@ -111,6 +135,8 @@ static void make_answers(void) {
     put_answer(&answers[2 + index], &policies[index]);
   for (index = 0; index < 16; index++)
     put_record(&answers[8], "TX", empty, 1);
+  for (index = 0; index < 3; index++)
+    put_answer(&answers[9 + index], &policies[8 + index]);
 }
 
 /* A domain of thirteen labels and 245 octets, another for each index: a walk from it asks eight names. */
@@ -212,6 +238,58 @@ static void make_states(void) {
   }
 }
 
+static void keep_check(const waslidhaj_check *check, waslidhaj_check_given given) {
+  check_stage *to = &checks[check_count];
+  if (check_count == CHECKS)
+    abort();
+  check_count++;
+  to->check = *check;
+  to->walk = given.walk;
+  to->place = given.place;
+  to->name_length = waslidhaj_check_name(check, to->walk, to->place, to->name, sizeof to->name).length;
+}
+
+/* A check of an entry, none of whose names has a record: every check on its way is kept. */
+static void run_check(const char *entry, size_t names) {
+  static uint8_t scratch[WASLIDHAJ_SCRATCH_OCTETS];
+  waslidhaj_check check;
+  waslidhaj_check_given given;
+  memset(&check, 0, sizeof check);
+  given = waslidhaj_check_start(&check, (const uint8_t *)POLICY, strlen(POLICY), (const uint8_t *)entry, strlen(entry));
+  keep_check(&check, given);
+  for (given = waslidhaj_check_next(&check); given.kind == WASLIDHAJ_ASK; given = waslidhaj_check_next(&check)) {
+    const check_stage *last = &checks[check_count];
+    keep_check(&check, given);
+    given = waslidhaj_check_answer(&check, last->name, last->name_length, WASLIDHAJ_NO_RECORDS, NULL, 0, scratch,
+                                   sizeof scratch);
+    keep_check(&check, given);
+  }
+  if (given.kind != WASLIDHAJ_OUTCOME || given.count != names)
+    abort();
+  keep_check(&check, given);
+}
+
+/* The checks of whole runs; then checks of random octets, and checks with some octets changed. */
+static void make_checks(void) {
+  size_t made;
+  run_check("mailto:a@" HOST, WASLIDHAJ_CHECK_NAMES);
+  run_check("mailto:a@" POLICY, 0);
+  made = check_count;
+  while (check_count < CHECKS) {
+    waslidhaj_check check = checks[check_count % made].check;
+    waslidhaj_check_given given;
+    size_t changes = check_count % 2 == 0 ? 5 : sizeof check;
+    while (changes-- > 0) {
+      size_t at = changes < 5 ? ((size_t)random_octet() << 8 | random_octet()) % sizeof check : changes;
+      ((uint8_t *)&check)[at] = random_octet();
+    }
+    memset(&given, 0, sizeof given);
+    given.walk = random_octet() % 3;
+    given.place = random_octet();
+    keep_check(&check, given);
+  }
+}
+
 /* The other sheets: answers by the thousand, the hostile record alone, random octets, one octet too many, none. */
 static void make_sheets(void) {
   static const char digits[] = "abcdefghijklmnopqrstuvwxyz0123456789";
@@ -243,6 +321,16 @@ static void make_texts(void) {
   put_text(&rua_longest, "a:b");
   while (rua_longest.length < WASLIDHAJ_SCRATCH_OCTETS - 4)
     put_text(&rua_longest, ",a:b");
+  put_text(&entries[0], "mailto:a@");
+  put(&entries[0], domain, sizeof domain);
+  put_text(&entries[1], "mailto:");
+  put_text(&entries[2], " mailto:");
+  while (entries[2].length < 30000) {
+    put_text(&entries[1], "@");
+    put_text(&entries[2], "%41");
+  }
+  put_text(&entries[1], "a");
+  put_text(&entries[2], "@a ");
 }
 
 /* ---- The calls ---- */
@@ -255,6 +343,8 @@ static waslidhaj_found found;
 static waslidhaj_list_changed changed;
 static waslidhaj_record_read read;
 static waslidhaj_field_read read_methods;
+static waslidhaj_check_given given_of_check;
+static waslidhaj_check check;
 static size_t printed;
 static uint8_t lent[SHEET + 2 * WASLIDHAJ_PRINTED_OCTETS];
 static waslidhaj_row rows[WASLIDHAJ_ROWS + 4];
@@ -395,6 +485,49 @@ static void call_read_field(void) {
   read_methods = waslidhaj_read_field(lent, sizeof lent);
 }
 
+static void call_check_start(void) {
+  const text *domain = &domain_longest;
+  for (size_t index = 0; index < check_count; index++) {
+    const text *entry = &entries[index % 3];
+    check = checks[index].check;
+    given_of_check = waslidhaj_check_start(&check, domain->octets, domain->length - index % 3, entry->octets, entry->length);
+  }
+}
+
+static void call_check_next(void) {
+  for (size_t index = 0; index < check_count; index++) {
+    check = checks[index].check;
+    given_of_check = waslidhaj_check_next(&check);
+  }
+}
+
+static void answer_checks(int overlapping) {
+  for (size_t index = 0; index < check_count; index++)
+    for (size_t which = 0; which < sizeof answers / sizeof *answers; which++) {
+      const uint8_t *bytes = overlapping ? lent + 1 : answers[which].octets;
+      if (overlapping)
+        memcpy(lent + 1, answers[which].octets, answers[which].length);
+      check = checks[index].check;
+      given_of_check = waslidhaj_check_answer(&check, checks[index].name, checks[index].name_length, WASLIDHAJ_RECORDS, bytes,
+                                              answers[which].length, lent, WASLIDHAJ_SCRATCH_OCTETS);
+    }
+}
+
+static void call_check_answer(void) { answer_checks(0); }
+
+static void call_check_answer_overlapping(void) { answer_checks(1); }
+
+static void call_check_result(void) {
+  for (size_t index = 0; index < check_count; index++)
+    given_of_check = waslidhaj_check_result(&checks[index].check);
+}
+
+static void call_check_name(void) {
+  for (size_t index = 0; index < check_count; index++)
+    written = waslidhaj_check_name(&checks[index].check, checks[index].walk, checks[index].place, lent,
+                                   WASLIDHAJ_CHECK_NAME_OCTETS);
+}
+
 /* ---- Threads ---- */
 
 typedef struct {
@@ -426,6 +559,12 @@ static const entry calls[] = {
     {"waslidhaj_write_record overlapping", call_write_record_overlapping},
     {"waslidhaj_read_record", call_read_record},
     {"waslidhaj_read_field", call_read_field},
+    {"waslidhaj_check_start", call_check_start},
+    {"waslidhaj_check_next", call_check_next},
+    {"waslidhaj_check_answer", call_check_answer},
+    {"waslidhaj_check_answer overlapping", call_check_answer_overlapping},
+    {"waslidhaj_check_result", call_check_result},
+    {"waslidhaj_check_name", call_check_name},
 };
 
 static const uint8_t *begin; /* where the stack of a call begins; it grows downwards */
@@ -472,6 +611,7 @@ int main(int argc, char **argv) {
   make_policies();
   make_answers();
   make_states();
+  make_checks();
   make_sheets();
   make_texts();
   for (size_t index = 0; index < sizeof calls / sizeof *calls; index++) {

@@ -129,6 +129,9 @@ fn standard_output_that_is_full_or_closed() {
         "--json x.txt",
         "--next x.txt",
         "--help",
+        "--address b mailto:x@b",
+        "--address --next b mailto:x@c",
+        "--address b mailto:x",
     ] {
         for to in [">/dev/full", ">&-"] {
             let mut shell = Command::new("bash");
@@ -147,12 +150,20 @@ fn standard_output_that_is_full_or_closed() {
 #[test]
 fn standard_input_that_is_closed() {
     let folder = Folder::new();
+    for words in ["-", "--address b mailto:x@b -"] {
+        let mut shell = Command::new("bash");
+        let line = format!("exec {} {words} <&-", dmarc().display());
+        shell.args(["-c", &line]).current_dir(folder.path());
+        let ended = desk::script::ended(shell, b"");
+        let said = "dmarc: standard input cannot be read; is it closed?\n";
+        assert_eq!((ended.status, ended.said.as_str()), (1, said));
+    }
+    // Where no file is named, nothing is read.
     let mut shell = Command::new("bash");
-    let line = format!("exec {} - <&-", dmarc().display());
+    let line = format!("exec {} --address b mailto:x@b <&-", dmarc().display());
     shell.args(["-c", &line]).current_dir(folder.path());
     let ended = desk::script::ended(shell, b"");
-    let said = "dmarc: standard input cannot be read; is it closed?\n";
-    assert_eq!((ended.status, ended.said.as_str()), (1, said));
+    assert_eq!((ended.status, ended.said.as_str()), (0, ""));
 }
 
 #[test]

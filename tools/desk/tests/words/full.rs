@@ -128,18 +128,23 @@ fn temporary_files_of_a_record() {
         octets,
         left: Some(2),
     };
-    let Some(full) = disk(16 * PAGE).run(&house, "dmarc", &["--read", "x"]) else {
-        return;
-    };
-    assert_eq!((full.status, full.printed.as_str()), (1, ""));
     let said = format!(
         "dmarc: nothing more can be written in {}, where temporary files go; its disk may be full",
         folder.display()
     );
-    assert_eq!(full.said.lines().last(), Some(said.as_str()));
+    let runs: [&[&str]; 2] = [&["--read", "x"], &["--address", "b", "mailto:x@b", "x.txt"]];
+    for words in runs {
+        let Some(full) = disk(16 * PAGE).run(&house, "dmarc", words) else {
+            return;
+        };
+        assert_eq!((full.status, full.printed.as_str()), (1, ""));
+        assert_eq!(full.said.lines().last(), Some(said.as_str()));
+    }
     house.program("tools/target/release/dmarc-records", "echo p: none");
-    let enough = disk(16 * PAGE).run(&house, "dmarc", &["--read", "x"]);
-    assert_eq!(enough.expect("a disk").printed, "p: none\n");
+    for words in runs {
+        let enough = disk(16 * PAGE).run(&house, "dmarc", words);
+        assert_eq!(enough.expect("a disk").printed, "p: none\n");
+    }
 }
 
 #[test]
@@ -169,8 +174,8 @@ fn the_tools() {
 #[test]
 fn the_library() {
     let house = House::new();
-    // Each part is 100 KiB; all have room, and their objects have not.
-    let little = parts().len() * 150_000;
+    // A part is 26 pages, and its object 25. All parts have room, and two objects.
+    let little = (26 * parts().len() + 2 * 25 + 10) * PAGE;
     house.program(
         "bin/rt",
         "mkdir -p target/staticlib

@@ -1,6 +1,7 @@
 //! What the script `dmarc` prints, says and ends with. The proved program must
 //! be there: `rt check dmarc` makes it.
 
+mod addresses;
 mod answers;
 mod builds;
 mod fields;

@@ -83,6 +83,7 @@ fn the_program_and_the_input() {
     for signal in SIGNALS {
         stop(&house, "dmarc", &["x.txt"], signal);
         stop(&house, "dmarc", &["--write", "p=none"], signal);
+        stop(&house, "dmarc", &["--address", "b", "mailto:x@b"], signal);
     }
     // What reads a standard input that does not end.
     let head = "echo $$ > sleeper.new; mv sleeper.new sleeper; exec cat";
@@ -90,6 +91,12 @@ fn the_program_and_the_input() {
     house.program("bin/head", head);
     for signal in SIGNALS {
         stop(&house, "dmarc", &["-"], signal);
+        stop(
+            &house,
+            "dmarc",
+            &["--address", "b", "mailto:x@b", "-"],
+            signal,
+        );
     }
 }
 

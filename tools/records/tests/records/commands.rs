@@ -106,9 +106,48 @@ fn an_input_that_does_not_end() {
     assert!(said.starts_with(b"no policy record: it is over "));
 }
 
+const CHECK: [&str; 4] = ["address", "plain", "a", "mailto:x@b"];
+
+#[test]
+fn an_address_is_checked() {
+    let not_known = "ask _dmarc.a\nagreement not known\nasked 1\n".to_string();
+    let said = "no answer for _dmarc.a: read as a failed lookup\n".to_string();
+    let without = ends(&CHECK, b"");
+    assert_eq!(without, (Some(20), not_known.clone(), said));
+    let named = [&CHECK[..], &["x.txt"]].concat();
+    let said = "no answer in x.txt for _dmarc.a: read as a failed lookup\n".to_string();
+    assert_eq!(ends(&named, b""), (Some(20), not_known, said));
+    let next = ["address", "next", "a", "mailto:x@b", "x.txt"];
+    prints(&next, b"answer _dmarc.a none\n", "_dmarc.b\n");
+    let inside = ends(&["address", "next", "a", "mailto:x@A."], b"");
+    let printed = "agreement inside\nasked 0\n".to_string();
+    assert_eq!(inside, (Some(22), printed, String::new()));
+    let refused = ends(&["address", "plain", "a", "x"], b"");
+    assert_eq!(
+        (refused.0, refused.1.as_str()),
+        (Some(3), "refused 23 at 0\n")
+    );
+    fails(
+        &named,
+        b"\nanswer\n",
+        "x.txt: line 2: answer takes a name and what was answered\n",
+    );
+    fails(
+        &["address", "all", "a", "x"],
+        b"",
+        "FORM is plain, explain, json or next\n",
+    );
+}
+
 #[test]
 fn misuses_get_the_usage() {
-    let words: [&[&str]; 3] = [&[], &["read", "v=DMARC1"], &["walk"]];
+    let words: [&[&str]; 5] = [
+        &[],
+        &["read", "v=DMARC1"],
+        &["walk"],
+        &CHECK[..3],
+        &[&CHECK[..], &["x", "y"]].concat(),
+    ];
     for words in words {
         let (status, printed, said) = ends(words, b"");
         assert_eq!((status, printed.as_str()), (Some(1), ""), "{words:?}");

@@ -4,6 +4,7 @@
 #[path = "../../../sheets/tests/sheets/program.rs"]
 mod program;
 
+mod address;
 mod agreeing;
 mod commands;
 mod field;

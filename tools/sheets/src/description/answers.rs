@@ -2,7 +2,8 @@
 //! own or as dig prints them.
 
 use super::tokens::{domain_octets, hex_words, Token};
-use crate::written::{answer_bytes, cut};
+use crate::written::{answer_bytes, cut, status_number, Record};
+use evaluator::txt::Status;
 
 const ANSWER_FORMS: &str = "an answer is none, error, quoted texts, or hex and its digits";
 
@@ -10,10 +11,22 @@ const ANSWER_FORMS: &str = "an answer is none, error, quoted texts, or hex and i
 #[derive(Debug, PartialEq, Eq)]
 pub struct AnswerLine {
     pub name: Vec<u8>,
-    pub status: u8,
+    pub status: Status,
     pub bytes: Vec<u8>,
     /// Whether it is one record, to which other lines may add others.
     pub adds: bool,
+}
+
+impl AnswerLine {
+    /// Its record on a sheet.
+    pub fn record(&self) -> Record {
+        Record::answer(status_number(self.status), &self.name, &self.bytes)
+    }
+
+    /// How many octets the body of that record has.
+    pub fn octets(&self) -> usize {
+        2 + self.name.len() + self.bytes.len()
+    }
 }
 
 /// The words after `answer`.
@@ -29,9 +42,9 @@ pub fn answer(tokens: &[Token]) -> Result<AnswerLine, String> {
         adds: false,
     };
     match said {
-        [word] if word.is("none") => Ok(whole(1, Vec::new())),
-        [word] if word.is("error") => Ok(whole(2, Vec::new())),
-        [word, ..] if word.is("hex") => Ok(whole(0, hex_words(said)?)),
+        [word] if word.is("none") => Ok(whole(Status::None, Vec::new())),
+        [word] if word.is("error") => Ok(whole(Status::Error, Vec::new())),
+        [word, ..] if word.is("hex") => Ok(whole(Status::Records, hex_words(said)?)),
         _ => record_line(name, said),
     }
 }
@@ -48,7 +61,7 @@ fn name_octets(token: &Token) -> Result<Vec<u8>, String> {
 fn record_line(name: Vec<u8>, strings: &[Token]) -> Result<AnswerLine, String> {
     Ok(AnswerLine {
         name,
-        status: 0,
+        status: Status::Records,
         bytes: quoted_record(strings)?,
         adds: true,
     })

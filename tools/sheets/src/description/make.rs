@@ -1,31 +1,25 @@
 //! The sheet of a description.
 
-use std::collections::HashMap;
-
 use super::answers::{answer, pasted, AnswerLine};
+use super::collected::{check_name, Collected};
 use super::described::{Described, Mistake};
-use super::tokens::{after_front, domain_octets, hex_words, tokens, Token};
+use super::lines::each_line;
+use super::tokens::{after_front, domain_octets, hex_words, Token};
 use super::words::{number, EXISTENCES, OUTCOMES, SUPPORTS};
-use crate::domain_words;
 use crate::shown::brief;
 use crate::written::{sheet_and_places, Record, MOST_BODY_OCTETS};
-use evaluator::domain::{self, without_dot};
 use evaluator::sheet;
 
 const ITEMS: &str = "a line begins with author, spf, dkim, id, answer or sheet";
 const NO_AUTHOR: &str =
     "the description has no author line, such as: author example.com exists supported";
-/// The mark that some editors write before a text in UTF-8.
-const BYTE_ORDER_MARK: &[u8] = b"\xef\xbb\xbf";
 
 /// A sheet under way.
 #[derive(Default)]
 struct Maker {
-    /// Each record and its line.
+    /// Each record of another item than an answer, and its line.
     records: Vec<(Record, usize)>,
-    /// The answered names in lower case without a final dot: which record has
-    /// the answer, and whether other lines may add to it.
-    answered: HashMap<Vec<u8>, (usize, bool)>,
+    answers: Collected,
     /// The octets of a `sheet hex`, which stands alone, and its line.
     whole: Option<(Vec<u8>, usize)>,
 }
@@ -39,12 +33,7 @@ pub fn make(description: &[u8]) -> Result<Vec<u8>, String> {
 /// Reads a description.
 pub fn read(description: &[u8]) -> Result<Described, Mistake> {
     let mut maker = Maker::default();
-    let text = description.strip_prefix(BYTE_ORDER_MARK);
-    let lines = text.unwrap_or(description).split(|octet| *octet == b'\n');
-    for (line, text) in (1..).zip(lines) {
-        let taken = tokens(text).and_then(|tokens| maker.line(&tokens, line));
-        taken.map_err(|reason| Mistake { line, reason })?;
-    }
+    each_line(description, |tokens, line| maker.line(tokens, line))?;
     maker.finish()
 }
 
@@ -52,13 +41,7 @@ impl Maker {
     fn line(&mut self, tokens: &[Token], line: usize) -> Result<(), String> {
         match tokens.split_first() {
             None => Ok(()),
-            Some((Token::Word(head), rest)) => self.item(head, rest, tokens, line),
-            Some((Token::Quoted(_), _)) => {
-                let before = "put `answer` and the asked name before it";
-                Err(format!(
-                    "a line does not begin with a quoted text; {before}"
-                ))
-            }
+            Some((head, rest)) => self.item(head.octets(), rest, tokens, line),
         }
     }
 
@@ -70,7 +53,8 @@ impl Maker {
         line: usize,
     ) -> Result<(), String> {
         let head_word = head.to_ascii_lowercase();
-        if self.whole.is_some() || (head_word == b"sheet" && !self.records.is_empty()) {
+        let begun = !self.records.is_empty() || !self.answers.is_empty();
+        if self.whole.is_some() || (head_word == b"sheet" && begun) {
             return Err("`sheet` stands alone in a description".to_string());
         }
         match head_word.as_slice() {
@@ -91,27 +75,13 @@ impl Maker {
     }
 
     fn record(&mut self, line: usize, record: Record) -> Result<(), String> {
-        fits(&record)?;
+        fits(record.body.len())?;
         self.records.push((record, line));
         Ok(())
     }
 
-    /// A name's first line is where its answer stands; further records add to it.
     fn answer(&mut self, line: usize, answer: AnswerLine) -> Result<(), String> {
-        let name = without_dot(&answer.name).to_ascii_lowercase();
-        let next = (self.records.len(), answer.adds);
-        let (at, adds) = *self.answered.entry(name).or_insert(next);
-        match self.records.get_mut(at) {
-            None => {
-                let record = Record::answer(answer.status, &answer.name, &answer.bytes);
-                self.record(line, record)
-            }
-            Some((record, _)) if adds && answer.adds => {
-                record.body.extend(&answer.bytes);
-                fits(record)
-            }
-            Some(_) => Err("the name is answered already".to_string()),
-        }
+        fits(self.answers.add(answer, line)?)
     }
 
     /// A description other than `sheet hex` is of a well-formed sheet.
@@ -120,7 +90,7 @@ impl Maker {
             let lines = vec![(0, line)];
             return Ok(Described { sheet, lines });
         }
-        let (records, lines): (Vec<Record>, Vec<usize>) = self.records.into_iter().unzip();
+        let (records, lines) = self.in_order();
         let (sheet, places) = sheet_and_places(&records);
         let lines = places.into_iter().zip(lines).collect();
         let described = Described { sheet, lines };
@@ -129,10 +99,19 @@ impl Maker {
             Err(refusal) => Err(mistake(&described, refusal.place)),
         }
     }
+
+    /// All records in the order of their lines, and these.
+    fn in_order(self) -> (Vec<Record>, Vec<usize>) {
+        let answers = self.answers.into_answers().into_iter();
+        let answers = answers.map(|(answer, line)| (answer.record(), line));
+        let mut records: Vec<(Record, usize)> = self.records.into_iter().chain(answers).collect();
+        records.sort_by_key(|(_, line)| *line);
+        records.into_iter().unzip()
+    }
 }
 
-fn fits(record: &Record) -> Result<(), String> {
-    match record.body.len() > MOST_BODY_OCTETS {
+fn fits(octets: usize) -> Result<(), String> {
+    match octets > MOST_BODY_OCTETS {
         true => Err("longer than the 65535 octets of a sheet record".to_string()),
         false => Ok(()),
     }
@@ -161,11 +140,7 @@ fn broken(sheet: &[u8], place: usize) -> String {
         ([b'I', b'D', ..], _) => "identifiers come before answers".to_string(),
         ([_, _, _, _, _, length, rest @ ..], _) => {
             let name = rest.get(..usize::from(*length)).unwrap_or_default();
-            let why = domain::fault(name).map(|_| domain_words::why(name));
-            format!(
-                "the name breaks the domain rule: {}",
-                why.unwrap_or_default()
-            )
+            check_name(name).err().unwrap_or_default()
         }
         _ => "the line makes a broken record".to_string(),
     }

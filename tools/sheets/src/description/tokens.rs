@@ -14,6 +14,13 @@ impl Token {
     pub fn is(&self, word: &str) -> bool {
         matches!(self, Token::Word(own) if own.eq_ignore_ascii_case(word.as_bytes()))
     }
+
+    /// What stands in it, without quotes.
+    pub fn octets(&self) -> &[u8] {
+        match self {
+            Token::Word(own) | Token::Quoted(own) => own,
+        }
+    }
 }
 
 /// Parts a line into words and quoted texts, up to its comment.

@@ -188,7 +188,7 @@ fn bad_without_dot(random: &mut Random) -> Vec<u8> {
     }
 }
 
-fn with_foreign_octet(random: &mut Random, mut domain: Vec<u8>) -> Vec<u8> {
+pub fn with_foreign_octet(random: &mut Random, mut domain: Vec<u8>) -> Vec<u8> {
     let foreign = random.pick(b" \0@:/*\x7f\x80\xff\xc3!\n");
     let at = random.below(domain.len() + 1);
     domain.insert(at, foreign);

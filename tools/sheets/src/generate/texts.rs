@@ -356,7 +356,7 @@ pub fn wide_answer(random: &mut Random) -> Vec<u8> {
 }
 
 /// Texts as TX records, cut into character-strings, oddly at times.
-fn encoded(random: &mut Random, texts: &[Vec<u8>]) -> Vec<u8> {
+pub fn encoded(random: &mut Random, texts: &[Vec<u8>]) -> Vec<u8> {
     let mut records = Vec::new();
     for text in texts {
         let most = if random.percent(85) { 255 } else { 20 };

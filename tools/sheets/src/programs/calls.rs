@@ -5,7 +5,7 @@ mod adding;
 mod call;
 mod long;
 mod refused;
-mod scramble;
+pub(super) mod scramble;
 mod told;
 
 pub use call::{AddCall, AnswerCall, Call, OpenCall};

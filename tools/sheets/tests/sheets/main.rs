@@ -7,8 +7,11 @@ mod octets;
 mod program;
 mod stored;
 
+mod address_files;
+mod address_words;
 mod appendix_b;
 mod calls;
+mod checks;
 mod commands;
 mod coverage;
 mod describing;

@@ -1,12 +1,12 @@
 //! The calls by the C interface: what each may give, and that it gives no more.
 
-use crate::calls::BEHIND;
+use crate::alike::BEHIND;
 use evaluator::policy::Policy;
 use evaluator::refusal::Refusal;
 use evaluator::rows::Finding;
 use evaluator::txt::Status;
 use evaluator::verdict::{Alignment, AppliedPolicy, Disposition, DmarcResult, Verdict};
-use sheets::programs::calls::{Call, Told};
+use sheets::programs::calls::{AnswerCall, Call, Told};
 use sheets::programs::lent::FILL;
 use waslidhaj::raw::{self, Called, Found, Given, State, Written};
 use waslidhaj::{calls, DOMAIN_OCTETS, IDENTIFIERS};
@@ -52,11 +52,7 @@ pub fn make(
         Call::Add(given) => calls::add(state, given.kind, given.outcome, &given.domain),
         Call::Next => calls::next(state),
         Call::Answer(given) => {
-            let status = match given.status {
-                Status::Records => 0,
-                Status::None => 1,
-                Status::Error => error,
-            };
+            let status = status(given, error);
             calls::answer(state, &given.name, status, &given.bytes, lent)
         }
         Call::Result => stays(calls::result(state)),
@@ -65,6 +61,15 @@ pub fn make(
     };
     let told = told(call, called.state, &called.given)?;
     Ok((called.state, told))
+}
+
+/// The status of an answer; an error is of this number.
+pub fn status(given: &AnswerCall, error: u8) -> u8 {
+    match given.status {
+        Status::Records => 0,
+        Status::None => 1,
+        Status::Error => error,
+    }
 }
 
 /// What is told, by the kinds that a call may give.
@@ -101,7 +106,7 @@ pub fn alone(given: &Given) -> Given {
     own
 }
 
-fn refusal(refusal: raw::Refusal) -> Refusal {
+pub fn refusal(refusal: raw::Refusal) -> Refusal {
     Refusal::new(refusal.number, refusal.place)
 }
 
@@ -167,7 +172,7 @@ fn domain(state: State, begin: usize) -> Result<Vec<u8>, String> {
 
 /// What a writer writes: into memory that is always enough, and into memory with
 /// one octet too few, which must be refused 10 and left as it is.
-fn written(write: impl Fn(&mut [u8]) -> Written) -> Result<Vec<u8>, String> {
+pub fn written(write: impl Fn(&mut [u8]) -> Written) -> Result<Vec<u8>, String> {
     let mut out = [FILL; DOMAIN_OCTETS + BEHIND];
     let (lent, _) = out.split_at_mut(DOMAIN_OCTETS);
     let written = write(lent);

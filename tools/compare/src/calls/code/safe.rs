@@ -33,8 +33,11 @@ pub fn make(evaluation: &mut Evaluation, call: &Call, lent: &mut [u8]) -> Told {
 }
 
 fn of<T>(given: Result<T, waslidhaj::Refusal>, told: impl FnOnce(T) -> Told) -> Told {
-    let refusal = |own: waslidhaj::Refusal| Refusal::new(own.number, own.place);
     Told::of(given.map_err(refusal), told)
+}
+
+pub fn refusal(own: waslidhaj::Refusal) -> Refusal {
+    Refusal::new(own.number, own.place)
 }
 
 /// Adds an identifier by its kind and outcome, or by numbers that are not listed.
@@ -48,7 +51,7 @@ fn add(evaluation: &mut Evaluation, given: &AddCall) -> Result<(), waslidhaj::Re
     }
 }
 
-fn answer(given: &AnswerCall) -> Answer<'_> {
+pub fn answer(given: &AnswerCall) -> Answer<'_> {
     match given.status {
         Status::Records => Answer::Records(&given.bytes),
         Status::None => Answer::NoRecords,

@@ -116,14 +116,18 @@ impl fmt::Display for Call {
                     given.kind, given.outcome
                 )
             }
-            Call::Answer(given) => {
-                let (status, name) = (status_number(given.status), quoted(&given.name));
-                let (bytes, scratch) = (quoted(&given.bytes), given.scratch);
-                write!(out, " {name} status={status} {bytes} scratch of {scratch}")
-            }
+            Call::Answer(given) => write!(out, " {given}"),
             Call::Field { size } => write!(out, " of {size}"),
             Call::Next | Call::Result | Call::Finding => Ok(()),
         }
+    }
+}
+
+impl fmt::Display for AnswerCall {
+    fn fmt(&self, out: &mut fmt::Formatter<'_>) -> fmt::Result {
+        let (status, name) = (status_number(self.status), quoted(&self.name));
+        let (bytes, scratch) = (quoted(&self.bytes), self.scratch);
+        write!(out, "{name} status={status} {bytes} scratch of {scratch}")
     }
 }
 
@@ -167,8 +171,13 @@ impl AnswerCall {
         }
     }
 
-    pub fn make(&self, book: &mut Book, scratch: &mut [u8]) -> Result<(), Refusal> {
+    /// The answer as it is handed in.
+    pub fn answer(&self) -> Answer<'_> {
         let (status, bytes) = (self.status, self.bytes.as_slice());
-        book.answer(&self.name, Answer { status, bytes }, scratch)
+        Answer { status, bytes }
+    }
+
+    pub fn make(&self, book: &mut Book, scratch: &mut [u8]) -> Result<(), Refusal> {
+        book.answer(&self.name, self.answer(), scratch)
     }
 }

@@ -24,10 +24,10 @@ const SELDOM: usize = 5;
 /// fields (25, 26 and 31), and more.
 const FIELD_SIZES: [u16; 10] = [0, 1, 24, 25, 26, 27, 30, 31, 40, 300];
 /// Sizes of a scratch that is long enough, and of one that is not.
-const LONG: [u16; 6] = [4096, 4096, 4096, 4096, 4097, 65_535];
-const SHORT: [u16; 4] = [4095, 4095, 1, 0];
+pub const LONG: [u16; 6] = [4096, 4096, 4096, 4096, 4097, 65_535];
+pub const SHORT: [u16; 4] = [4095, 4095, 1, 0];
 /// Bytes that are no answer's, or one over a limit.
-const UNREADABLE: [&[u8]; 10] = [
+pub const UNREADABLE: [&[u8]; 10] = [
     b"T",
     b"TX",
     b"TX\0",
@@ -40,7 +40,7 @@ const UNREADABLE: [&[u8]; 10] = [
     b"TX\0\x13\x12v=DMARC1; p=rejectTX\0\0",
 ];
 /// A readable answer.
-const RECORD: &[u8] = b"TX\0\x13\x12v=DMARC1; p=reject";
+pub const RECORD: &[u8] = b"TX\0\x13\x12v=DMARC1; p=reject";
 
 /// Identifiers that come in between, good and bad.
 const IDENTIFIERS: [(u8, u8, &[u8]); 10] = [

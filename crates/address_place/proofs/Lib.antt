@@ -1,0 +1,5 @@
+-- The proofs of the claims.
+pub mod EntryLaws
+pub mod AnswerLaws
+pub mod Placed
+pub mod Claimed
