@@ -2,11 +2,11 @@
  *
  * An evaluation is a value of 5,352 octets. There is no allocation, no global, no lock and no callback: copy an evaluation,
  * keep it in a queue file, drop it. Each call takes one by value and gives the one to go on with. Any octets in a state and any
- * arguments get an answer (of a day's rows, lists and entries the flags are 0 or 1); a refused call gives back the very state
- * that it got and leaves lent memory as it was.
+ * arguments get an answer; a refused call gives back the very state that it got and leaves lent memory as it was.
  *
  * Lent memory is the caller's own and as long as it says, and the caller's again when the call returns. It may overlap: every
- * text is read as it was handed over. NULL may be lent with length 0.
+ * text is read as it was handed over. Memory to write that lies over a list or over a report's texts, which are not copied, is
+ * no room. NULL may be lent with length 0.
  *
  * A message:  open, add an identifier for each SPF or DKIM outcome, then in turn: next, and an answer for the name that it
  * gives, until next gives the verdict. README.md has a whole program.
@@ -17,7 +17,7 @@
  * that failed or timed out is an error. Only NXDOMAIN and an answer without TXT records are WASLIDHAJ_NO_RECORDS.
  *
  * A state that is kept in a file is of one build only: keep WASLIDHAJ_VERSION beside it, and open the message afresh where it
- * is another.
+ * is another. So are a day's list and its rows.
  *
  * Link with libwaslidhaj.a, which `./library` makes, for x86-64 Linux. */
 #ifndef WASLIDHAJ_H
@@ -34,7 +34,7 @@ extern "C" {
 /* ---- Sizes ---- */
 
 enum {
-  WASLIDHAJ_VERSION = 9,             /* of a state and a check: another whenever a layout or a meaning changes */
+  WASLIDHAJ_VERSION = 10,            /* of all that may be kept: another whenever a layout or a meaning changes */
   WASLIDHAJ_DOMAIN_OCTETS = 253,     /* the most octets of a domain */
   WASLIDHAJ_NAME_OCTETS = 260,       /* enough for the name that any state gives */
   WASLIDHAJ_CHECK_NAME_OCTETS = 522, /* enough for the name that any check of an address gives */
@@ -42,7 +42,10 @@ enum {
   WASLIDHAJ_PRINTED_OCTETS = 36864,  /* the most octets printed for a sheet */
   WASLIDHAJ_IDENTIFIERS = 16,        /* the most identifiers of a message */
   WASLIDHAJ_NAMES = 136,             /* the most names that a message asks */
-  WASLIDHAJ_ROWS = 256               /* the most rows of a day's list */
+  WASLIDHAJ_ROWS = 256,              /* the most rows of a day's list */
+  WASLIDHAJ_SET_OCTETS = 8240,       /* the most octets of a packed set of identifiers that a report has */
+  WASLIDHAJ_REPORT_OCTETS = 2592802, /* the most octets of a report */
+  WASLIDHAJ_SUBJECT_OCTETS = 611     /* the most octets of a report's subject */
 };
 
 /* ---- Stack ---- */
@@ -67,6 +70,9 @@ enum {
  *   waslidhaj_file_name        2048          2048
  *   waslidhaj_write_record     2048          6144
  *   waslidhaj_read_record     18432
+ *   waslidhaj_gather          25600
+ *   waslidhaj_report          35840         35840
+ *   waslidhaj_subject          2048          2048
  *   waslidhaj_read_field       1024
  *   waslidhaj_check_start      8192
  *   waslidhaj_check_next       4096
@@ -274,24 +280,29 @@ static inline size_t waslidhaj_run(const uint8_t *sheet, size_t sheet_length, ui
 
 /* ---- A day's rows ---- */
 
-/* What is gathered of a verdict. The flags are 0 or 1, here and below: any other value is not allowed. */
+/* What a row counts: verdicts that have all this in common. `author` and `set` are places in the two lists beside the rows. A
+ * flag is set where it is not 0, here and below. `spare` is not read. A lent disposition over 2 is reported as none. */
 typedef struct {
   uint8_t source[16];
   uint8_t disposition;
   uint8_t dkim;
   uint8_t spf;
+  uint8_t spare;
+  uint32_t author;
+  uint32_t set;
 } waslidhaj_seen;
 
+/* One with count 0 is free. */
 typedef struct {
   waslidhaj_seen seen;
   uint32_t count;
 } waslidhaj_row;
 
-/* A day's list: look into none of it. */
+/* A day's list. Its policy domain is the first `length` octets of `domain`, all 253 at the most, once `cleared` is set. */
 typedef struct {
   uint8_t cleared;
   uint8_t domain[253];
-  size_t length;
+  uint16_t length;
 } waslidhaj_list;
 
 /* What a verdict says to a list: its result and disposition by their numbers, and whether each method aligned. */
@@ -302,10 +313,13 @@ typedef struct {
   uint8_t spf;
 } waslidhaj_finding_numbers;
 
-/* What is entered: where the message came from (16 octets, IPv4 mapped), and what was found. */
+/* What is entered: where the message came from (16 octets, IPv4 mapped), what was found, and the places of its author domain and
+ * of its set of identifiers. */
 typedef struct {
   uint8_t source[16];
   waslidhaj_finding_numbers finding;
+  uint32_t author;
+  uint32_t set;
 } waslidhaj_entry;
 
 /* The list to go on with, and the refusal. */
@@ -326,7 +340,7 @@ typedef struct {
 /* What is entered of an evaluation at its verdict, or refused 7. */
 waslidhaj_found waslidhaj_finding(waslidhaj_state state);
 
-/* A list that was never cleared. */
+/* A list that was never cleared: every octet is 0. */
 waslidhaj_list waslidhaj_new_list(void);
 
 /* Whether a text and rows have an octet in common. */
@@ -351,21 +365,131 @@ static inline waslidhaj_list_changed waslidhaj_clear(waslidhaj_list list, const 
   return waslidhaj_clear_apart(list, own_domain, domain_length, rows, rows_length);
 }
 
+/* ---- The two lists beside the rows ---- */
+
+/* A lent text. */
+typedef struct {
+  const uint8_t *octets;
+  size_t length;
+} waslidhaj_text;
+
+/* The author domains, and the sets of identifiers. Each list is one text of records: two octets that are not read, a 16-bit
+ * length (high octet first) and the body. Places count from 0; a record that runs past the end of the text is none, and ends the
+ * list. An author's body is the domain. A set's body is again such records, one for each identifier: its kind, its outcome, the
+ * length of its selector (one octet), the selector, and the domain, which fills the rest. SPF's selector is not looked at. A
+ * domain or a selector may end in one dot. For example, a list of one author, and one of a set of two identifiers and a set of
+ * none:
+ *
+ *   "AU" 0 11 "example.com"
+ *   "ST" 0 45 "ID" 0 16 1 1 2 "s1" "example.com" "ID" 0 21 0 0 0 "bounce.example.net" "ST" 0 0 */
+typedef struct {
+  waslidhaj_text authors, sets;
+} waslidhaj_lists;
+
+/* The functions below pack the lists into memory that the caller lends: `room` octets, of which *length, at first 0, are packed.
+ * They give 1, or 0 where there is no room in that memory or in a record (65,535 octets), or where a text overlaps that memory;
+ * nothing is written then. An author or a set that is there already is not added again: its place comes into *place, and rows
+ * match only where their places are equal. */
+
+/* Writes the head of a record, if there is room for all of it. */
+static inline int waslidhaj_pack_head(uint8_t *to, size_t *length, size_t room, const char *mark, size_t body_length) {
+  if (body_length > 65535 || *length > room || room - *length < 4 + body_length)
+    return 0;
+  to += *length;
+  to[0] = (uint8_t)mark[0];
+  to[1] = (uint8_t)mark[1];
+  to[2] = (uint8_t)(body_length >> 8);
+  to[3] = (uint8_t)(body_length & 255);
+  *length += 4;
+  return 1;
+}
+
+static inline void waslidhaj_pack_body(uint8_t *to, size_t *length, const uint8_t *from, size_t from_length) {
+  waslidhaj_copy(to + *length, from, from_length);
+  *length += from_length;
+}
+
+/* Packs a record, unless one with an equal body is there. */
+static inline int waslidhaj_pack_once(uint8_t *list, size_t *length, size_t room, const char *mark, const uint8_t *body,
+                                      size_t body_length, uint32_t *place) {
+  size_t at = 0, own_length;
+  uint32_t count;
+  if (waslidhaj_overlap(body, body_length, list, room))
+    return 0;
+  for (count = 0; *length - at >= 4; count++) {
+    own_length = (size_t)list[at + 2] << 8 | list[at + 3];
+    at += 4;
+    if (own_length > *length - at)
+      return 0;
+    if (own_length == body_length && (own_length == 0 || memcmp(list + at, body, own_length) == 0)) {
+      *place = count;
+      return 1;
+    }
+    at += own_length;
+  }
+  if (at != *length || !waslidhaj_pack_head(list, length, room, mark, body_length))
+    return 0;
+  waslidhaj_pack_body(list, length, body, body_length);
+  *place = count;
+  return 1;
+}
+
+/* Packs an author domain into the list of authors. */
+static inline int waslidhaj_pack_author(uint8_t *authors, size_t *length, size_t room, const uint8_t *domain,
+                                        size_t domain_length, uint32_t *place) {
+  return waslidhaj_pack_once(authors, length, room, "AU", domain, domain_length, place);
+}
+
+/* Packs an identifier into the body of a set. WASLIDHAJ_SET_OCTETS are enough for any set that a report has. */
+static inline int waslidhaj_pack_identifier(uint8_t *set, size_t *length, size_t room, uint8_t kind, uint8_t outcome,
+                                            const uint8_t *selector, size_t selector_length, const uint8_t *domain,
+                                            size_t domain_length) {
+  uint8_t numbers[3];
+  if (selector_length > 255 || domain_length > 65535 || waslidhaj_overlap(selector, selector_length, set, room) ||
+      waslidhaj_overlap(domain, domain_length, set, room) ||
+      !waslidhaj_pack_head(set, length, room, "ID", sizeof numbers + selector_length + domain_length))
+    return 0;
+  numbers[0] = kind;
+  numbers[1] = outcome;
+  numbers[2] = (uint8_t)selector_length;
+  waslidhaj_pack_body(set, length, numbers, sizeof numbers);
+  waslidhaj_pack_body(set, length, selector, selector_length);
+  waslidhaj_pack_body(set, length, domain, domain_length);
+  return 1;
+}
+
+/* Packs a set, whose identifiers are packed, into the list of sets. */
+static inline int waslidhaj_pack_set(uint8_t *sets, size_t *length, size_t room, const uint8_t *set, size_t set_length,
+                                     uint32_t *place) {
+  return waslidhaj_pack_once(sets, length, room, "ST", set, set_length, place);
+}
+
 /* As waslidhaj_enter, of lent memory that nowhere overlaps. */
 waslidhaj_list_changed waslidhaj_enter_apart(waslidhaj_list list, waslidhaj_entry entry, const uint8_t *domain,
-                                             size_t domain_length, waslidhaj_row *rows, size_t rows_length);
+                                             size_t domain_length, const uint8_t *authors, size_t authors_length,
+                                             const uint8_t *sets, size_t sets_length, waslidhaj_row *rows,
+                                             size_t rows_length);
 
-/* Enters a verdict, with the domain of its applied record. Refused 14, 27, 12, 13: too long a domain is 14 or 27. */
+/* Enters a verdict, with the domain of its applied record. Refused 14, 27, 28, 12, 13, in this order and at place 0: too long a
+ * domain is 14 or 27; 28 is a place past its list, or a set with a kind or an outcome that is not listed, a 17th identifier or a
+ * second SPF. Rows that overlap a list are no rows: 12, unless 14, 27 or 28 is due. */
 static inline waslidhaj_list_changed waslidhaj_enter(waslidhaj_list list, waslidhaj_entry entry, const uint8_t *domain,
-                                                     size_t domain_length, waslidhaj_row *rows, size_t rows_length) {
+                                                     size_t domain_length, waslidhaj_lists lists, waslidhaj_row *rows,
+                                                     size_t rows_length) {
   uint8_t own_domain[WASLIDHAJ_DOMAIN_OCTETS + 1];
-  if (!waslidhaj_overlap_rows(domain, domain_length, rows, rows_length))
-    return waslidhaj_enter_apart(list, entry, domain, domain_length, rows, rows_length);
-  if (domain_length > sizeof own_domain)
-    return waslidhaj_enter_apart(list, entry, domain, domain_length, rows, 0);
-  waslidhaj_copy(own_domain, domain, domain_length);
-  return waslidhaj_enter_apart(list, entry, own_domain, domain_length, rows, rows_length);
+  if (waslidhaj_overlap_rows(lists.authors.octets, lists.authors.length, rows, rows_length) ||
+      waslidhaj_overlap_rows(lists.sets.octets, lists.sets.length, rows, rows_length) ||
+      (domain_length > sizeof own_domain && waslidhaj_overlap_rows(domain, domain_length, rows, rows_length)))
+    rows_length = 0;
+  if (waslidhaj_overlap_rows(domain, domain_length, rows, rows_length)) {
+    waslidhaj_copy(own_domain, domain, domain_length);
+    domain = own_domain;
+  }
+  return waslidhaj_enter_apart(list, entry, domain, domain_length, lists.authors.octets, lists.authors.length,
+                               lists.sets.octets, lists.sets.length, rows, rows_length);
 }
+
+/* ---- The names of a report ---- */
 
 /* As waslidhaj_file_name, of lent memory that nowhere overlaps. */
 waslidhaj_written waslidhaj_file_name_apart(const uint8_t *receiver, size_t receiver_length, const uint8_t *domain,
@@ -402,6 +526,39 @@ static inline waslidhaj_written waslidhaj_file_name(const uint8_t *receiver, siz
                                       out_length);
   return waslidhaj_file_name_apart(receiver, receiver_length, domain, domain_length, begin, end, has_id, id, id_length, out,
                                    out_length);
+}
+
+/* As waslidhaj_subject, of lent memory that nowhere overlaps. */
+waslidhaj_written waslidhaj_subject_apart(const uint8_t *receiver, size_t receiver_length, const uint8_t *domain,
+                                          size_t domain_length, const uint8_t *id, size_t id_length, uint8_t *out,
+                                          size_t out_length);
+
+/* As waslidhaj_subject, of copies. Too long a text is 11. */
+static WASLIDHAJ_OWN_FRAME waslidhaj_written waslidhaj_subject_copied(const uint8_t *receiver, size_t receiver_length,
+                                                                      const uint8_t *domain, size_t domain_length,
+                                                                      const uint8_t *id, size_t id_length, uint8_t *out,
+                                                                      size_t out_length) {
+  uint8_t own_receiver[WASLIDHAJ_DOMAIN_OCTETS + 1];
+  uint8_t own_domain[WASLIDHAJ_DOMAIN_OCTETS + 1];
+  uint8_t own_id[64];
+  if (receiver_length > sizeof own_receiver || domain_length > sizeof own_domain || id_length > sizeof own_id)
+    return waslidhaj_subject_apart(receiver, receiver_length, domain, domain_length, id, id_length, out, 0);
+  waslidhaj_copy(own_receiver, receiver, receiver_length);
+  waslidhaj_copy(own_domain, domain, domain_length);
+  waslidhaj_copy(own_id, id, id_length);
+  return waslidhaj_subject_apart(own_receiver, receiver_length, own_domain, domain_length, own_id, id_length, out, out_length);
+}
+
+/* Writes the subject of the mail with an aggregate report (RFC 9990, 3.5.2), without the field's name and a line end.
+ * WASLIDHAJ_SUBJECT_OCTETS are always enough. Refused 11 (the receiver, the domain, or an id that is not 1 to 64 letters and
+ * digits), 10. */
+static inline waslidhaj_written waslidhaj_subject(const uint8_t *receiver, size_t receiver_length, const uint8_t *domain,
+                                                  size_t domain_length, const uint8_t *id, size_t id_length, uint8_t *out,
+                                                  size_t out_length) {
+  if (waslidhaj_overlap(receiver, receiver_length, out, out_length) ||
+      waslidhaj_overlap(domain, domain_length, out, out_length) || waslidhaj_overlap(id, id_length, out, out_length))
+    return waslidhaj_subject_copied(receiver, receiver_length, domain, domain_length, id, id_length, out, out_length);
+  return waslidhaj_subject_apart(receiver, receiver_length, domain, domain_length, id, id_length, out, out_length);
 }
 
 /* ---- Policy records ---- */
@@ -446,6 +603,66 @@ static inline waslidhaj_written waslidhaj_write_record(waslidhaj_settings settin
 
 /* Reads a text as a policy record. */
 waslidhaj_record_read waslidhaj_read_record(const uint8_t *text, size_t text_length);
+
+/* ---- The aggregate report ---- */
+
+/* Who reports, on which seconds: `contact` may be empty, `id` has 1 to 64 letters and digits. */
+typedef struct {
+  waslidhaj_text organization, email, contact, id;
+  uint64_t begin, end;
+} waslidhaj_reporter;
+
+/* The rows of a report: look into none of it. */
+typedef struct {
+  size_t count;
+  uint8_t octets[8192];
+} waslidhaj_gathered;
+
+/* Gathers the rows that a report is written from, those with a count of the first 256. */
+waslidhaj_gathered waslidhaj_gather(const waslidhaj_row *rows, size_t rows_length);
+
+/* As waslidhaj_report, of rows that are gathered and of lent memory that nowhere overlaps. */
+waslidhaj_written waslidhaj_report_apart(waslidhaj_list list, waslidhaj_gathered gathered, waslidhaj_settings settings,
+                                         const uint8_t *authors, size_t authors_length, const uint8_t *sets,
+                                         size_t sets_length, const uint8_t *organization, size_t organization_length,
+                                         const uint8_t *email, size_t email_length, const uint8_t *contact,
+                                         size_t contact_length, const uint8_t *id, size_t id_length, uint64_t begin,
+                                         uint64_t end, uint8_t *out, size_t out_length);
+
+static inline int waslidhaj_overlap_text(waslidhaj_text text, const uint8_t *out, size_t out_length) {
+  return waslidhaj_overlap(text.octets, text.length, out, out_length);
+}
+
+static inline int waslidhaj_overlap_report(waslidhaj_lists lists, waslidhaj_reporter reporter, const uint8_t *out,
+                                           size_t out_length) {
+  return waslidhaj_overlap_text(lists.authors, out, out_length) || waslidhaj_overlap_text(lists.sets, out, out_length) ||
+         waslidhaj_overlap_text(reporter.organization, out, out_length) ||
+         waslidhaj_overlap_text(reporter.email, out, out_length) ||
+         waslidhaj_overlap_text(reporter.contact, out, out_length) || waslidhaj_overlap_text(reporter.id, out, out_length);
+}
+
+/* Writes the aggregate report of a day's rows as XML (RFC 9990, 3.1.1). `settings` are those of the policy record at the list's
+ * domain, as waslidhaj_read_record gives them; where p is absent or one of p, sp, np invalid, all three are written none.
+ * WASLIDHAJ_REPORT_OCTETS are always enough; lend none to be told how many are needed. It needs no other memory but the gathered
+ * rows, 8,200 octets, on the stack, among those of the table.
+ *
+ * Refused at place 0, in this order: 27 (the list was never cleared), 18 (no row with a count), 28 (as waslidhaj_enter, of every
+ * row with a count), 19 (organization or email empty, or one of the three texts over 4,096 octets or with one outside 32 to
+ * 126), 11 (the list's domain, the id, an end before the begin, or of a row with a count its author domain, an identifier's
+ * domain or a DKIM selector); then 10 at the octets needed. An output that overlaps a list or a text is no room: 10, unless
+ * another refusal is due. It may overlap the rows. */
+static WASLIDHAJ_OWN_FRAME waslidhaj_written waslidhaj_report(waslidhaj_list list, const waslidhaj_row *rows,
+                                                              size_t rows_length, waslidhaj_settings settings,
+                                                              waslidhaj_lists lists, waslidhaj_reporter reporter,
+                                                              uint8_t *out, size_t out_length) {
+  if (waslidhaj_overlap_report(lists, reporter, out, out_length))
+    out_length = 0;
+  return waslidhaj_report_apart(list, waslidhaj_gather(rows, rows_length), settings, lists.authors.octets,
+                                lists.authors.length, lists.sets.octets, lists.sets.length, reporter.organization.octets,
+                                reporter.organization.length, reporter.email.octets, reporter.email.length,
+                                reporter.contact.octets, reporter.contact.length, reporter.id.octets, reporter.id.length,
+                                reporter.begin, reporter.end, out, out_length);
+}
 
 /* ---- The Identity-Alignment field ---- */
 

@@ -36,10 +36,14 @@ impl<'a> Answer<'a> {
 pub fn records<T: AsRef<[u8]>>(rdatas: &[T]) -> Option<Vec<u8>> {
     let mut bytes = Vec::new();
     for rdata in rdatas {
-        let rdata = rdata.as_ref();
-        bytes.extend(b"TX");
-        bytes.extend(u16::try_from(rdata.len()).ok()?.to_be_bytes());
-        bytes.extend(rdata);
+        bytes.extend(record(b"TX", rdata.as_ref())?);
     }
     Some(bytes)
+}
+
+/// One record: a mark, the length of the body in 16 bits, and the body. Nothing if
+/// that is over 65,535 octets.
+pub(crate) fn record(mark: &[u8; 2], body: &[u8]) -> Option<Vec<u8>> {
+    let length = u16::try_from(body.len()).ok()?;
+    Some([mark, &length.to_be_bytes()[..], body].concat())
 }

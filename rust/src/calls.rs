@@ -7,6 +7,33 @@
 
 use crate::raw::*;
 
+/// The two lists beside a day's rows, each one text of records, as
+/// [`ReportLists`](crate::ReportLists) makes them.
+#[derive(Clone, Copy, Debug, Default, PartialEq, Eq)]
+pub struct Lists<'a> {
+    /// The author domains.
+    pub authors: &'a [u8],
+    /// The sets of identifiers.
+    pub sets: &'a [u8],
+}
+
+/// What the reporter says in a report of itself.
+#[derive(Clone, Copy, Debug, Default, PartialEq, Eq)]
+pub struct Reporter<'a> {
+    /// Its name.
+    pub organization: &'a [u8],
+    /// Its email address.
+    pub email: &'a [u8],
+    /// More of how to reach it; it may be empty.
+    pub contact: &'a [u8],
+    /// The report's id: 1 to 64 letters and digits.
+    pub id: &'a [u8],
+    /// The first second.
+    pub begin: u64,
+    /// The last second.
+    pub end: u64,
+}
+
 /// Opens an evaluation. Accepted, or refused 1, 3.
 pub fn open(state: State, author: &[u8], existence: u8, support: u8) -> Called {
     // SAFETY: the author is lent by its pointer and length.
@@ -99,18 +126,86 @@ pub fn clear(list: List, domain: &[u8], rows: &mut [Row]) -> ListChanged {
     }
 }
 
-/// Enters a verdict whose applied record is of this domain, or refused 14, 27, 12,
-/// 13.
-pub fn enter(list: List, entry: Entry, domain: &[u8], rows: &mut [Row]) -> ListChanged {
-    // SAFETY: both slices are lent by pointer and length.
+/// Enters a verdict whose applied record is of this domain, or refused 14, 27, 28,
+/// 12, 13.
+pub fn enter(
+    list: List,
+    entry: Entry,
+    domain: &[u8],
+    lists: Lists<'_>,
+    rows: &mut [Row],
+) -> ListChanged {
+    // SAFETY: each slice is lent by its pointer and length.
     unsafe {
         waslidhaj_enter_apart(
             list,
             entry,
             domain.as_ptr(),
             domain.len(),
+            lists.authors.as_ptr(),
+            lists.authors.len(),
+            lists.sets.as_ptr(),
+            lists.sets.len(),
             rows.as_mut_ptr(),
             rows.len(),
+        )
+    }
+}
+
+/// The rows that a report is written from: those with a count of the first 256.
+pub fn gather(rows: &[Row]) -> Gathered {
+    // SAFETY: the rows are lent by pointer and length.
+    unsafe { waslidhaj_gather(rows.as_ptr(), rows.len()) }
+}
+
+/// Writes the aggregate report, or refused 27, 18, 28, 19, 11, 10.
+pub fn report(
+    list: List,
+    gathered: Gathered,
+    settings: Settings,
+    lists: Lists<'_>,
+    reporter: Reporter<'_>,
+    out: &mut [u8],
+) -> Written {
+    // SAFETY: each slice is lent by its pointer and length.
+    unsafe {
+        waslidhaj_report_apart(
+            list,
+            gathered,
+            settings,
+            lists.authors.as_ptr(),
+            lists.authors.len(),
+            lists.sets.as_ptr(),
+            lists.sets.len(),
+            reporter.organization.as_ptr(),
+            reporter.organization.len(),
+            reporter.email.as_ptr(),
+            reporter.email.len(),
+            reporter.contact.as_ptr(),
+            reporter.contact.len(),
+            reporter.id.as_ptr(),
+            reporter.id.len(),
+            reporter.begin,
+            reporter.end,
+            out.as_mut_ptr(),
+            out.len(),
+        )
+    }
+}
+
+/// Writes the subject of the mail with a report, or refused 11, 10.
+pub fn subject(receiver: &[u8], domain: &[u8], id: &[u8], out: &mut [u8]) -> Written {
+    // SAFETY: each slice is lent by its pointer and length.
+    unsafe {
+        waslidhaj_subject_apart(
+            receiver.as_ptr(),
+            receiver.len(),
+            domain.as_ptr(),
+            domain.len(),
+            id.as_ptr(),
+            id.len(),
+            out.as_mut_ptr(),
+            out.len(),
         )
     }
 }

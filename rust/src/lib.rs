@@ -62,8 +62,9 @@
 //! handed in as it is. What cannot be taken is a [`Refusal`]; a refused call
 //! leaves the evaluation and lent memory as they were.
 //!
-//! Beside evaluations there are [`DayList`] (a day's verdicts, gathered in rows),
-//! [`FileName`] (of a report), [`AddressCheck`] (whether a report address agreed),
+//! Beside evaluations there are [`DayList`] (a day's verdicts, gathered in rows, with
+//! [`ReportLists`] beside them), [`Report`] (the aggregate report as XML) with its
+//! [`FileName`] and [`Subject`], [`AddressCheck`] (whether a report address agreed),
 //! [`policy`] (policy records written and read), [`read_field`] (an
 //! Identity-Alignment field) and [`run`] (a whole message from a sheet). [`calls`] and
 //! [`raw`] have the C interface itself.
@@ -77,6 +78,7 @@ mod answer;
 pub mod calls;
 mod evaluation;
 mod field;
+mod lists;
 mod name;
 mod numbers;
 pub mod policy;
@@ -89,22 +91,24 @@ mod verdict;
 
 pub use address::{AddressCheck, AddressOutcome, AddressStep, Agreement};
 pub use answer::{records, Answer};
+pub use calls::{Lists, Reporter};
 pub use evaluation::{Evaluation, Step};
 pub use field::{read_field, Methods};
+pub use lists::{ReportLists, ReportedIdentifier};
 pub use name::Name;
 pub use numbers::{Alignment, AppliedPolicy, Disposition, DmarcResult};
 pub use numbers::{Existence, Kind, Outcome};
 pub use raw::{Row, Seen};
 pub use refusal::Refusal;
-pub use report::FileName;
+pub use report::{FileName, Report, Subject};
 pub use rows::{mapped, DayList, Finding};
 pub use sheet::{run, PRINTED_OCTETS};
 pub use verdict::Verdict;
 
-/// Of a state: another whenever its layout or its meaning changes. A state that
-/// is kept in a file is of one build only: keep this beside it, and open the
-/// message afresh where it is another.
-pub const VERSION: usize = 9;
+/// Of all that may be kept: another whenever a layout or a meaning changes. A state
+/// that is kept in a file is of one build only: keep this beside it, and open the
+/// message afresh where it is another. So are a day's list and its rows.
+pub const VERSION: usize = 10;
 /// The most octets of a domain.
 pub const DOMAIN_OCTETS: usize = 253;
 /// Enough for the name that any state gives.

@@ -111,7 +111,7 @@ pub fn read(text: &[u8]) -> Option<Record<'_>> {
 }
 
 impl Settings {
-    fn numbers(&self) -> raw::Settings {
+    pub(crate) fn numbers(&self) -> raw::Settings {
         raw::Settings {
             p: self.p as u8,
             sp: self.sp as u8,

@@ -1,9 +1,8 @@
 //! The values and functions of `include/waslidhaj.h`, as C has them.
 //!
-//! A flag is a `bool` here where the header says that it is 0 or 1: no other
-//! octet can be handed in. The functions are called by [`crate::calls`] alone,
-//! those with memory to write by their names `.._apart` and `.._by_value`: what is
-//! lent in Rust overlaps nowhere.
+//! The flags of a [`RecordRead`], which are 0 or 1, are a `bool` here. The functions
+//! are called by [`crate::calls`] alone, those with memory to write by their names
+//! `.._apart` and `.._by_value`: what is lent in Rust overlaps nowhere.
 
 /// A refusal: its number and its place. Number 0 is no refusal.
 #[repr(C)]
@@ -157,18 +156,25 @@ pub struct Called {
     pub given: Given,
 }
 
-/// What a row counts: verdicts that have all this in common.
+/// What a row counts: verdicts that have all this in common. A flag is set where
+/// it is not 0, here and in a list and an entry.
 #[repr(C)]
 #[derive(Clone, Copy, Debug, Default, PartialEq, Eq)]
 pub struct Seen {
     /// Where the messages came from: 16 octets, IPv4 mapped.
     pub source: [u8; 16],
-    /// 0 none, 1 quarantine, 2 reject.
+    /// 0 none, 1 quarantine, 2 reject; any other is reported as none.
     pub disposition: u8,
     /// Whether DKIM aligned.
-    pub dkim: bool,
+    pub dkim: u8,
     /// Whether SPF aligned.
-    pub spf: bool,
+    pub spf: u8,
+    /// It is not read.
+    pub spare: u8,
+    /// The place of the author domain in its list.
+    pub author: u32,
+    /// The place of the set of identifiers in its list.
+    pub set: u32,
 }
 
 /// A row of a day's list. One with count 0 is free.
@@ -186,11 +192,11 @@ pub struct Row {
 #[derive(Clone, Copy, Debug, PartialEq, Eq)]
 pub struct List {
     /// Whether it was ever cleared.
-    pub cleared: bool,
+    pub cleared: u8,
     /// The policy domain in lower case, and what is past its end.
     pub domain: [u8; 253],
-    /// How many octets the policy domain has.
-    pub length: usize,
+    /// How many octets the policy domain has; over 253, it has all.
+    pub length: u16,
 }
 
 /// What a verdict says to a list, by numbers.
@@ -202,12 +208,13 @@ pub struct FindingNumbers {
     /// As a verdict's.
     pub disposition: u8,
     /// Whether DKIM aligned.
-    pub dkim: bool,
+    pub dkim: u8,
     /// Whether SPF aligned.
-    pub spf: bool,
+    pub spf: u8,
 }
 
-/// What is entered: where the message came from, and what was found.
+/// What is entered: where the message came from, what was found, and the places of
+/// its author domain and of its set of identifiers in their lists.
 #[repr(C)]
 #[derive(Clone, Copy, Debug, Default, PartialEq, Eq)]
 pub struct Entry {
@@ -215,6 +222,10 @@ pub struct Entry {
     pub source: [u8; 16],
     /// What was found.
     pub finding: FindingNumbers,
+    /// The place of its author domain.
+    pub author: u32,
+    /// The place of its set.
+    pub set: u32,
 }
 
 /// The list to go on with, and the refusal.
@@ -225,6 +236,16 @@ pub struct ListChanged {
     pub list: List,
     /// Number 0 where the call is accepted.
     pub refusal: Refusal,
+}
+
+/// The rows of a list that a report is written from, gathered of those lent.
+#[repr(C)]
+#[derive(Clone, Copy, Debug, PartialEq, Eq)]
+pub struct Gathered {
+    /// The proved code's alone.
+    pub count: usize,
+    /// The proved code's alone.
+    pub octets: [u8; 8192],
 }
 
 /// What an evaluation enters at its verdict, of kind [`VERDICT`]; or refused.
@@ -384,7 +405,11 @@ pub struct CheckCalled {
 #[cfg(target_pointer_width = "64")]
 const _: () = {
     assert!(size_of::<State>() == 5352);
-    assert!(size_of::<Row>() == 24);
+    assert!(size_of::<Seen>() == 28);
+    assert!(size_of::<Row>() == 32);
+    assert!(size_of::<List>() == 256);
+    assert!(size_of::<Entry>() == 28);
+    assert!(size_of::<Gathered>() == 8200);
     assert!(size_of::<Check>() == 704);
 };
 
@@ -461,9 +486,48 @@ extern "C" {
         entry: Entry,
         domain: *const u8,
         domain_length: usize,
+        authors: *const u8,
+        authors_length: usize,
+        sets: *const u8,
+        sets_length: usize,
         rows: *mut Row,
         rows_length: usize,
     ) -> ListChanged;
+
+    pub(crate) fn waslidhaj_gather(rows: *const Row, rows_length: usize) -> Gathered;
+
+    pub(crate) fn waslidhaj_report_apart(
+        list: List,
+        gathered: Gathered,
+        settings: Settings,
+        authors: *const u8,
+        authors_length: usize,
+        sets: *const u8,
+        sets_length: usize,
+        organization: *const u8,
+        organization_length: usize,
+        email: *const u8,
+        email_length: usize,
+        contact: *const u8,
+        contact_length: usize,
+        id: *const u8,
+        id_length: usize,
+        begin: u64,
+        end: u64,
+        out: *mut u8,
+        out_length: usize,
+    ) -> Written;
+
+    pub(crate) fn waslidhaj_subject_apart(
+        receiver: *const u8,
+        receiver_length: usize,
+        domain: *const u8,
+        domain_length: usize,
+        id: *const u8,
+        id_length: usize,
+        out: *mut u8,
+        out_length: usize,
+    ) -> Written;
 
     pub(crate) fn waslidhaj_file_name_apart(
         receiver: *const u8,

@@ -26,18 +26,21 @@ const MEANINGS: &[(u8, &str)] = &[
     (8, "a broken sheet, or one name answered twice"),
     (9, "the result has no field, or no identifier was given"),
     (10, "the lent memory is too short"),
-    (11, "a bad domain, id or time of a report"),
+    (11, "a bad domain, selector, id or time of a report"),
     (12, "no free row and no match"),
     (13, "the count would pass its limit"),
     (14, "not a pass or fail"),
     (15, "p is absent, or a policy setting is invalid"),
     (16, "a rua text that cannot be written"),
     (17, "too late for an identifier, or nothing was opened"),
+    (18, "no row with a count"),
+    (19, "a text of the reporter is empty, too long or not plain"),
     (23, "no valid mailto: with a domain, or a comma"),
     (24, "not the grammar of the field"),
     (25, "a ninth comment within comments"),
     (26, "a method that the field names already"),
     (27, "another policy domain, or a list never cleared"),
+    (28, "a number past its list, or a bad set of identifiers"),
 ];
 
 impl Refusal {

@@ -2,7 +2,7 @@
 
 use std::net::IpAddr;
 
-use crate::calls;
+use crate::calls::{self, Lists};
 use crate::numbers::{Disposition, DmarcResult};
 use crate::raw::{Entry, FindingNumbers, List, ListChanged, Row};
 use crate::refusal::Refusal;
@@ -11,7 +11,8 @@ use crate::refusal::Refusal;
 /// and those past the 256th are no part of it.
 ///
 /// ```
-/// use waslidhaj::{Answer, DayList, Evaluation, Existence, Row, SCRATCH_OCTETS};
+/// use waslidhaj::{Answer, DayList, Evaluation, Existence, ReportLists, Row};
+/// use waslidhaj::SCRATCH_OCTETS;
 ///
 /// # fn main() -> Result<(), waslidhaj::Refusal> {
 /// let mut rows = [Row::default(); 256];
@@ -23,7 +24,11 @@ use crate::refusal::Refusal;
 /// let mut scratch = [0; SCRATCH_OCTETS];
 /// evaluation.answer("_dmarc.example.com", record, &mut scratch)?;
 /// let source = waslidhaj::mapped([192, 0, 2, 1].into());
-/// list.enter(source, &evaluation.finding()?, &mut rows)?;
+/// let mut beside = ReportLists::new();
+/// let author = beside.author("example.com").expect("a short domain");
+/// let set = beside.set(&[]).expect("a small set");
+/// let finding = evaluation.finding()?;
+/// list.enter(source, &finding, author, set, beside.lists(), &mut rows)?;
 /// assert_eq!((rows[0].count, rows[0].seen.disposition), (1, 2));
 /// # Ok(())
 /// # }
@@ -63,26 +68,43 @@ impl DayList {
         self.accept(changed)
     }
 
-    /// Enters what was found of a message that came from this source. Refused 14,
-    /// 27, 12, 13.
+    /// Enters what was found of a message that came from this source, with the
+    /// places of its author domain and of its set of identifiers in the lists.
+    /// Refused 14, 27, 28, 12, 13.
     pub fn enter(
         &mut self,
         source: [u8; 16],
         finding: &Finding,
+        author: u32,
+        set: u32,
+        lists: Lists<'_>,
         rows: &mut [Row],
     ) -> Result<(), Refusal> {
         let entry = Entry {
             source,
             finding: finding.numbers(),
+            author,
+            set,
         };
-        let changed = calls::enter(self.list, entry, finding.domain.as_bytes(), rows);
+        let changed = calls::enter(self.list, entry, finding.domain.as_bytes(), lists, rows);
         self.accept(changed)
     }
 
     /// Its policy domain in lower case, once it was cleared.
     pub fn domain(&self) -> Option<&[u8]> {
         let list = &self.list;
-        list.domain.get(..list.length).filter(|_| list.cleared)
+        let length = usize::from(list.length).min(list.domain.len());
+        (list.cleared != 0).then(|| &list.domain[..length])
+    }
+
+    /// The list, as a program in C has it.
+    pub fn raw(&self) -> &List {
+        &self.list
+    }
+
+    /// A day's list of one, whatever octets that has.
+    pub fn from_raw(list: List) -> DayList {
+        DayList { list }
     }
 
     fn accept(&mut self, changed: ListChanged) -> Result<(), Refusal> {
@@ -102,8 +124,8 @@ impl Finding {
         Finding {
             result: DmarcResult::of(numbers.result),
             disposition: Disposition::of(numbers.disposition),
-            dkim: numbers.dkim,
-            spf: numbers.spf,
+            dkim: numbers.dkim != 0,
+            spf: numbers.spf != 0,
             domain,
         }
     }
@@ -112,8 +134,8 @@ impl Finding {
         FindingNumbers {
             result: self.result as u8,
             disposition: self.disposition as u8,
-            dkim: self.dkim,
-            spf: self.spf,
+            dkim: u8::from(self.dkim),
+            spf: u8::from(self.spf),
         }
     }
 }

@@ -4,6 +4,10 @@ use std::collections::BTreeSet;
 
 const HEADER: &str = include_str!("../../include/waslidhaj.h");
 const RAW: &str = include_str!("../src/raw.rs");
+const CALLS: &str = include_str!("../src/calls.rs");
+
+/// A lent text in C, which is a slice here.
+const TEXT: &str = "waslidhaj_text";
 
 /// The structs of the header, and what they are called here.
 const STRUCTS: &[(&str, &str)] = &[
@@ -20,15 +24,18 @@ const STRUCTS: &[(&str, &str)] = &[
     ("waslidhaj_entry", "Entry"),
     ("waslidhaj_list_changed", "ListChanged"),
     ("waslidhaj_found", "Found"),
+    ("waslidhaj_lists", "Lists<'a>"),
     ("waslidhaj_settings", "Settings"),
     ("waslidhaj_record_read", "RecordRead"),
+    ("waslidhaj_reporter", "Reporter<'a>"),
+    ("waslidhaj_gathered", "Gathered"),
     ("waslidhaj_field_read", "FieldRead"),
     ("waslidhaj_check", "Check"),
     ("waslidhaj_check_given", "CheckGiven"),
     ("waslidhaj_check_called", "CheckCalled"),
 ];
 
-/// The name of a type in Rust. A flag is a `bool` here.
+/// The name of a type in Rust.
 fn type_here(in_c: &str) -> &str {
     match in_c {
         "uint8_t" => "u8",
@@ -36,6 +43,7 @@ fn type_here(in_c: &str) -> &str {
         "uint32_t" => "u32",
         "uint64_t" => "u64",
         "size_t" => "usize",
+        TEXT => "&'a [u8]",
         other => {
             let known = STRUCTS.iter().find(|(own, _)| *own == other);
             known.unwrap_or_else(|| panic!("the type {other}")).1
@@ -69,9 +77,9 @@ fn fields_in_c(name: &str) -> Vec<String> {
 
 /// The fields of a struct here.
 fn fields_here(name: &str) -> Vec<String> {
-    let (_, after) = RAW
-        .split_once(&format!("pub struct {name} {{\n"))
-        .expect(name);
+    let begin = format!("pub struct {name} {{\n");
+    let own = RAW.split_once(&begin).or_else(|| CALLS.split_once(&begin));
+    let (_, after) = own.expect(name);
     let (body, _) = after.split_once("\n}\n").expect("its end");
     let lines = body
         .lines()
@@ -81,6 +89,7 @@ fn fields_here(name: &str) -> Vec<String> {
         .collect()
 }
 
+/// The flags of a record that was read are a `bool` here.
 #[test]
 fn the_structs_have_the_same_fields() {
     for (in_c, here) in STRUCTS {
@@ -90,7 +99,9 @@ fn the_structs_have_the_same_fields() {
             .collect();
         assert_eq!(fields, fields_in_c(in_c), "{here}");
     }
-    assert_eq!(HEADER.matches("typedef struct {").count(), STRUCTS.len());
+    assert!(HEADER.contains(&format!("}} {TEXT};")));
+    let structs = HEADER.matches("typedef struct {").count();
+    assert_eq!(structs, STRUCTS.len() + 1);
 }
 
 /// The names of functions, each before one of these.
@@ -110,7 +121,7 @@ fn the_functions_are_the_same() {
     let prototypes = prototypes.filter(|line| !line.starts_with("static "));
     let in_c: BTreeSet<String> = prototypes.flat_map(|line| names(line, " ")).collect();
     assert_eq!(here, in_c);
-    assert_eq!(here.len(), 22);
+    assert_eq!(here.len(), 25);
 }
 
 /// A number of the header by its name.
@@ -129,6 +140,8 @@ fn the_sizes_are_the_same() {
     let check_name = waslidhaj::CHECK_NAME_OCTETS;
     assert_eq!(number_in_c("CHECK_NAME_OCTETS"), check_name);
     assert_eq!(number_in_c("CHECK_NAMES"), waslidhaj::CHECK_NAMES);
+    assert_eq!(number_in_c("REPORT_OCTETS"), waslidhaj::Report::OCTETS);
+    assert_eq!(number_in_c("SUBJECT_OCTETS"), waslidhaj::Subject::OCTETS);
     assert_eq!(number_in_c("STACK_OCTETS"), waslidhaj::STACK_OCTETS);
     assert_eq!(number_in_c("RUN_STACK_OCTETS"), waslidhaj::RUN_STACK_OCTETS);
 }

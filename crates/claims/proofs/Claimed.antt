@@ -1,5 +1,5 @@
 -- All that is claimed holds: each claim by the theorem of its crate.
-use mathlib.Core.Path.{refl, ap}
+use mathlib.Core.Path.{refl, ap, _∙_}
 use mathlib.Core.List.{List, []}
 use Rattle.lookup.specs.Lookup.{Lookups}
 use Rattle.asking.specs.Asking.{Asking}
@@ -47,7 +47,12 @@ use Rattle.sheet.proofs.Marked.{marked}
 use Rattle.sheet.proofs.Dotted.{dotted-sheets}
 use Rattle.rows.proofs.JudgedExactly.{judged-exactly}
 use Rattle.rows.proofs.ServesNamed.{serves-named}
+use Rattle.rows.specs.Rows.{on-list}
+use Rattle.rows_day.specs.Day.{listing}
 use Rattle.rows_day.proofs.Claimed.{day-claims}
+use Rattle.report.specs.Report.{report}
+use Rattle.report.proofs.Claimed.{of-the-list, of-counted-rows, longest}
+use Rattle.report.proofs.Examples.{examples as report-examples}
 use Rattle.address.proofs.NameLaws.{names-of-check}
 use Rattle.address.proofs.CheckLaws.{check-claimed}
 use Rattle.address.proofs.Marked.{marked-checks, marked-answers, marked-hosts}
@@ -69,6 +74,7 @@ use Rattle.claims.specs.Verdicts.{VerdictsHold}
 use Rattle.claims.specs.Runs.{RunHolds}
 use Rattle.claims.specs.Addresses.{AddressesHold}
 use Rattle.claims.specs.Calls.{Defers, BookHolds, CallsHold}
+use Rattle.claims.specs.Reports.{ReportsHold}
 use Rattle.claims.specs.Requests.{RowsHold, RecordsHold, DotsHold, ErrorsHold, FieldsHold, RequestsHold}
 use Rattle.claims.specs.Delivered.{Delivered}
 
@@ -169,6 +175,18 @@ rows-hold = record {
   finds-the-book = finds-the-book;
 }
 
+reports-hold : ReportsHold
+unfolding listing
+reports-hold = record {
+  of-gathered-rows = λ list rows g e lists by s. ap (λ rs. report (listing list rs) lists by s) e ∙ of-the-list (listing list rows) lists by s .same-report;
+  each-row-counts = λ rows. of-counted-rows rows .each-counts;
+  in-list-order = λ rows. of-counted-rows rows .in-order;
+  counts-what-was-entered = λ first last before after h never ran is-cleared f.
+      of-counted-rows (on-list after) .nothing-lost f ∙ day-claims first last before after h .tallies never ran is-cleared .by-any f;
+  longest-report = λ l lists by s. longest l lists by s .at-most;
+  reports-written = report-examples;
+}
+
 records-hold : RecordsHold
 records-hold = record {
   reads-back = publishing-claims .reads-back;
@@ -263,6 +281,7 @@ requests-hold = record {
   as-the-single-start = as-the-single-start;
   same-state = same-state;
   adding-calls = adding-calls;
+  aggregate-reports = reports-hold;
   read-fields = fields-hold;
   outside-addresses = addresses-hold;
 }

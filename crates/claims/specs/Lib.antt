@@ -4,5 +4,6 @@ pub mod Verdicts
 pub mod Runs
 pub mod Calls
 pub mod Addresses
+pub mod Reports
 pub mod Requests
 pub mod Delivered

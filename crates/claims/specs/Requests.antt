@@ -67,6 +67,7 @@ use Rattle.evaluation_finding.specs.code.Entering.{Finds}
 use Rattle.evaluation_finding.specs.FoundRead.{found-in}
 use Rattle.evaluation_finding.specs.FoundAfter.{finding-by}
 use Rattle.claims.specs.Addresses.{AddressesHold}
+use Rattle.claims.specs.Reports.{ReportsHold}
 
 -- ------------------------------------------------------------------ Ask 1: daily rows
 
@@ -204,5 +205,6 @@ pub record RequestsHold : Type 0 where
   pub same-state : (g : GivenMessage) (m n : Message) → opening (g .author) (g .existence) (g .support) ≡ ok m → single-start g ≡ ok n
       → book-after m (map add (g .identifiers)) ≡ opened n
   pub adding-calls : AddingCalls
+  pub aggregate-reports : ReportsHold
   pub read-fields : FieldsHold
   pub outside-addresses : AddressesHold

@@ -34,8 +34,8 @@ fn enter(numbers: &[u16], t: Terms, j: Judgement) -> Found
         finding: Finding {
             result: verdict_numbers::number_result(result),
             disposition: verdict_numbers::number_disposition(disposition),
-            dkim: dkim.aligned,
-            spf: spf.aligned,
+            dkim: octets_write::number_flag(dkim.aligned),
+            spf: octets_write::number_flag(spf.aligned),
         },
         begin,
     }

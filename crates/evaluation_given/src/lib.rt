@@ -166,8 +166,8 @@ pub fn number_found(x: Found) -> FoundNumbers
             finding: Finding {
                 result: 0,
                 disposition: 0,
-                dkim: false,
-                spf: false,
+                dkim: 0,
+                spf: 0,
             },
             begin: Octet(0),
             refusal,

@@ -167,7 +167,7 @@ unfoldable pub found-numbers : Found → FoundNumbers
 found-numbers (Found.Verdict f begin) = record { kind = 2; finding = f; begin = begin; refusal = refusal 0 0 }
 found-numbers (Found.Refused f) = record {
   kind = 3;
-  finding = record { result = 0; disposition = 0; dkim = false; spf = false };
+  finding = record { result = 0; disposition = 0; dkim = 0; spf = 0 };
   begin = record { 0 = 0 };
   refusal = f;
 }

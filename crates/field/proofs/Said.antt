@@ -8,17 +8,13 @@ use borrow.Author.Tests.{ne-eqb}
 use Rattle.octets.specs.Octets.{Octets}
 use Rattle.octets.specs.Refusing.{OrRefused, ok, not-ok}
 use Rattle.octets.specs.declared.Refusal.{Refusal}
+use Rattle.octets.proofs.TextLaws.{flag-said}
 use Rattle.field.specs.declared.NamedMethods.{NamedMethods}
 use Rattle.field.specs.declared.FieldRead.{FieldRead}
 use Rattle.field.specs.code.Reading.{read-field}
 use Rattle.field.specs.Numbers.{field-answer, field-read}
-use Rattle.field.specs.Numbers.{flag, field-read-numbers, field-read-said, SaidAgain}
+use Rattle.field.specs.Numbers.{field-read-numbers, field-read-said, SaidAgain}
 use Rattle.field.proofs.Claimed.{field-claims}
-
-flag-said : (b : Bool) → not (eqb (flag b) 0) ≡ b
-unfolding flag
-flag-said true = refl
-flag-said false = refl
 
 refusal-said : (r : Refusal) → (r .number ≡ 0 → ⊥) → field-read-said (field-read-numbers (FieldRead.Refused r)) ≡ FieldRead.Refused r
 unfolding field-read-said field-read-numbers

@@ -3,7 +3,7 @@ use mathlib.Core.Path.{_≡_}
 use mathlib.Core.Bool.{Bool, not}
 use Prim.Native.Nat.{ℕ}
 use lib.Dec.{eqb}
-use Rattle.octets.specs.Octets.{Octets, if_then_else_}
+use Rattle.octets.specs.Octets.{Octets, if_then_else_, is-set, flag}
 use Rattle.octets.specs.Refusing.{OrRefused, ok, not-ok, refusal}
 use Rattle.field.specs.declared.FieldRead.{FieldRead}
 use Rattle.field.specs.declared.FieldNumbers.{FieldNumbers}
@@ -20,9 +20,6 @@ field-read s = field-answer (read-field s)
 
 -- ------------------------------------------------------------------ by numbers
 
-unfoldable pub flag : Bool → ℕ
-flag b = if b then 1 else 0
-
 -- refusal 0 is none. A refused field names both methods: `none` would say that all that were tried aligned
 unfoldable pub field-read-numbers : FieldRead → FieldNumbers
 field-read-numbers (FieldRead.Named m) = record { refusal = refusal 0 0; dkim = flag (m .dkim); spf = flag (m .spf) }
@@ -31,7 +28,7 @@ field-read-numbers (FieldRead.Refused r) = record { refusal = r; dkim = 1; spf =
 -- what the numbers say
 unfoldable pub field-read-said : FieldNumbers → FieldRead
 field-read-said n =
-    if eqb (n .refusal .number) 0 then FieldRead.Named (record { dkim = not (eqb (n .dkim) 0); spf = not (eqb (n .spf) 0) })
+    if eqb (n .refusal .number) 0 then FieldRead.Named (record { dkim = is-set (n .dkim); spf = is-set (n .spf) })
     else FieldRead.Refused (n .refusal)
 
 -- nothing is lost: the numbers of what is read say it again

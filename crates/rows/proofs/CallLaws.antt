@@ -5,9 +5,9 @@ use mathlib.Core.Bool.{Bool, true, false, not}
 use mathlib.Core.Option.{Option, none as nothing, some as just}
 use Prim.Native.Nat.{ℕ, zero, suc, _+_}
 use native.Mathlib.Omega.{arith}
-use lib.Dec.{leb, eqb}
+use lib.Dec.{T, leb, eqb}
 use lib.ListN.{length, take, drop, length-map}
-use Rattle.octets.specs.Octets.{if_then_else_, any, is-nothing, lower}
+use Rattle.octets.specs.Octets.{if_then_else_, all, any, is-nothing, lower}
 use Rattle.octets.specs.Refusing.{_>>=_, OrRefused, ok, not-ok, refusal, refuse-if}
 use Rattle.octets.specs.declared.Refusal.{Refusal}
 use Rattle.octets.proofs.TextLaws.{true→T}
@@ -16,19 +16,21 @@ use Rattle.domain.specs.Domain.{Domain, without-dot, is-domain}
 use Rattle.rows.specs.declared.Seen.{Seen}
 use Rattle.rows.specs.declared.Row.{Row}
 use Rattle.rows.specs.declared.Entry.{Entry}
+use Rattle.rows.specs.Lists.{Lists, named-by}
 use Rattle.rows.specs.Rows.{Listing, is-free, is-match, with-count, on-list, past-list, first, change-first, raised, taken, counted-by, counted, is-judged, seen-in, serves, cleared, entered}
 use Rattle.rows.specs.History.{Call, clear, enter, gives, refusal-of, is-accepted, left-by, with-call, total, number, Untouched, DayEnd}
-use Rattle.rows.proofs.RowLaws.{rejoin-on, rejoin-past, rejoin-length, first-any, change-length, one, raise-total, take-total, clear-total}
+use Rattle.rows.proofs.RowLaws.{plain, tidy, entered-plain, take-tidy, rejoin-on, rejoin-past, rejoin-length, first-any, change-length, raise-tidy, change-tidy, clear-tidy, one, raise-total, take-total, clear-total}
 
 never : {A B : Type 0} (r : Refusal) (a : A) → not-ok r ≡ ok a → B
 never r a e = absurd (true→T {b = false} (cc e))
 
 -- ------------------------------------------------------------------ what an accepted call did
 
--- one verdict more
+-- one verdict more; of rows as calls leave them the totals grow by it, and they stay so
 pub record OneMore (s : Seen) (new old : List Row) : Type 0 where
   pub as-many : length new ≡ length old
-  pub totals : (f : Seen → Bool) → total f new ≡ total f old + one (f s)
+  pub totals : (f : Seen → Bool) → T (plain s) → T (all tidy old) → total f new ≡ total f old + one (f s)
+  pub stays : T (plain s) → T (all tidy old) → T (all tidy new)
 
 raised-one : (s : Seen) (l new : List Row) (r : Row) → first (is-match s) l ≡ just r → raised s l r ≡ ok new → OneMore s new l
 unfolding raised
@@ -41,7 +43,7 @@ raised-one s l new r e h = go (leb 4294967295 (r .count)) h
     go true g = never (refusal 13 0) new g
     go false g =
         let same : up ≡ new = cc g in
-        rw (← same) (record { as-many = change-length (is-match s) _ l; totals = λ f. raise-total f s l (first-any (is-match s) l r e) })
+        rw (← same) (record { as-many = change-length (is-match s) _ l; totals = λ f p q. raise-total f s p l q (first-any (is-match s) l r e); stays = λ _ q. change-tidy (is-match s) _ (raise-tidy s) l q })
 
 taken-one : (s : Seen) (l new : List Row) → taken s l ≡ ok new → OneMore s new l
 unfolding taken
@@ -54,7 +56,7 @@ taken-one s l new h = go (any is-free l) refl h
     go false e g = never (refusal 12 0) new g
     go true e g =
         let same : up ≡ new = cc g in
-        rw (← same) (record { as-many = change-length is-free _ l; totals = λ f. take-total f s l e })
+        rw (← same) (record { as-many = change-length is-free _ l; totals = λ f _ q. take-total f s l q e; stays = λ p q. change-tidy is-free _ (λ _ _ _. take-tidy s p) l q })
 
 counted-one : (s : Seen) (l new : List Row) → counted s l ≡ ok new → OneMore s new l
 unfolding counted counted-by
@@ -70,12 +72,13 @@ record Entered (e : Entry) (before after : Listing) : Type 0 where
   one-more : OneMore (seen-in e) rows (on-list (before .rows))
   is-after : record { domain = before .domain; rows = rows ++ past-list (before .rows) } ≡ after
 
-entered-ok : (e : Entry) (d : Domain) (l l′ : Listing) → entered e d l ≡ ok l′ → Entered e l l′
+entered-ok : (e : Entry) (lists : Lists) (d : Domain) (l l′ : Listing) → entered e lists d l ≡ ok l′ → Entered e l l′
 unfolding entered
-entered-ok e d l l′ h =
+entered-ok e lists d l l′ h =
     let judged = refuse-if-ok (not (is-judged (e .finding))) (refusal 14 0) _ l′ h in
     let served = refuse-if-ok (not (serves (l .domain) d)) (refusal 27 0) _ l′ (judged .1) in
-    let (rows, (one, h₄)) = bind-ok (counted (seen-in e) (on-list (l .rows))) _ l′ (served .1) in
+    let named = refuse-if-ok (is-nothing (named-by lists (e .author) (e .set))) (refusal 28 0) _ l′ (served .1) in
+    let (rows, (one, h₄)) = bind-ok (counted (seen-in e) (on-list (l .rows))) _ l′ (named .1) in
     record { rows = rows; one-more = counted-one (seen-in e) (on-list (l .rows)) rows one; is-after = cc h₄ }
 
 -- a list that was cleared
@@ -122,16 +125,17 @@ refused-then (not-ok r) g f e k = k (cc e)
 pub refused-number : (c : Call) (l : Listing) (f : Refusal) → gives c l ≡ not-ok f → is-accepted f ≡ false
 unfolding gives cleared entered
 refused-number (clear d) l f h = refused-first (not (is-domain (without-dot d))) 11 _ f refl h (accepted-as _ f)
-refused-number (enter e d) l f h =
+refused-number (enter e lists d) l f h =
     refused-first (not (is-judged (e .finding))) 14 _ f refl h (λ g.
-    refused-first (not (serves (l .domain) d)) 27 _ f refl g (λ k.
-    refused-then (counted (seen-in e) (on-list (l .rows))) _ f k (counted-refused (seen-in e) (on-list (l .rows)) f)))
+    refused-first (not (serves (l .domain) d)) 27 _ f refl g (λ i.
+    refused-first (is-nothing (named-by lists (e .author) (e .set))) 28 _ f refl i (λ k.
+    refused-then (counted (seen-in e) (on-list (l .rows))) _ f k (counted-refused (seen-in e) (on-list (l .rows)) f))))
 
 -- ------------------------------------------------------------------ one call
 
--- what holds of a list, and of the verdicts accepted since it was cleared
+-- what holds of a list that was cleared, and of the verdicts accepted since
 unfoldable pub TalliesSoFar : (f : Seen → Bool) → Listing → List Seen → Type 0
-TalliesSoFar f l seen = is-nothing (l .domain) ≡ false → total f (on-list (l .rows)) ≡ number f seen
+TalliesSoFar f l seen = is-nothing (l .domain) ≡ false → (total f (on-list (l .rows)) ≡ number f seen) × T (all tidy (on-list (l .rows)))
 
 module _ (f : Seen → Bool) (l : Listing) (seen : List Seen) (so-far : TalliesSoFar f l seen) where
   refused-tallies : (c : Call) (r : Refusal) → gives c l ≡ not-ok r → TalliesSoFar f l (with-call seen c (is-accepted r))
@@ -141,19 +145,21 @@ module _ (f : Seen → Bool) (l : Listing) (seen : List Seen) (so-far : TalliesS
   clear-tallies : (d : Domain) (l′ : Listing) → cleared d l ≡ ok l′ → TalliesSoFar f l′ []
   unfolding TalliesSoFar on-list past-list number emptied
   clear-tallies d l′ h =
-      rw (← cleared-ok d l l′ h) (λ _. ap (total f) (rejoin-on 256 (map (with-count 0) (take 256 (l .rows))) (l .rows) (length-map (take 256 (l .rows)) (with-count 0))) ∙ clear-total f (take 256 (l .rows)))
+      let on = rejoin-on 256 (map (with-count 0) (take 256 (l .rows))) (l .rows) (length-map (take 256 (l .rows)) (with-count 0)) in
+      rw (← cleared-ok d l l′ h) (λ _. (ap (total f) on ∙ clear-total f (take 256 (l .rows)), rw on (clear-tidy (take 256 (l .rows)))))
 
-  enter-tallies : (e : Entry) (d : Domain) (l′ : Listing) → entered e d l ≡ ok l′ → TalliesSoFar f l′ (seen-in e ∷ seen)
+  enter-tallies : (e : Entry) (lists : Lists) (d : Domain) (l′ : Listing) → entered e lists d l ≡ ok l′ → TalliesSoFar f l′ (seen-in e ∷ seen)
   unfolding TalliesSoFar on-list past-list number
-  enter-tallies e d l′ h =
-      let did = entered-ok e d l l′ h in
-      rw (← did .is-after) (λ c. rw (rejoin-on 256 (did .rows) (l .rows) (did .one-more .as-many)) (omega (arith, did .one-more .totals f, so-far c)))
+  enter-tallies e lists d l′ h =
+      let did = entered-ok e lists d l l′ h in
+      rw (← did .is-after) (λ c. rw (rejoin-on 256 (did .rows) (l .rows) (did .one-more .as-many))
+      (omega (arith, did .one-more .totals f (entered-plain e) (so-far c .1), so-far c .0), did .one-more .stays (entered-plain e) (so-far c .1)))
 
   pub call-tallies : (c : Call) (g : OrRefused Listing) → gives c l ≡ g → TalliesSoFar f (left-by l g) (with-call seen c (is-accepted (refusal-of g)))
   unfolding gives left-by refusal-of is-accepted with-call
   call-tallies c (not-ok r) h = refused-tallies c r h
   call-tallies (clear d) (ok l′) h = clear-tallies d l′ h
-  call-tallies (enter e d) (ok l′) h = enter-tallies e d l′ h
+  call-tallies (enter e lists d) (ok l′) h = enter-tallies e lists d l′ h
 
 -- ------------------------------------------------------------------ rows past the list
 
@@ -165,8 +171,8 @@ pub kept-by : (l : Listing) (c : Call) (g : OrRefused Listing) → gives c l ≡
 unfolding gives left-by emptied on-list
 kept-by l c (not-ok r) h = record { past = refl; as-many = refl }
 kept-by l (clear d) (ok l′) h = rw (← cleared-ok d l l′ h) (kept-on (map (with-count 0) (on-list (l .rows))) (l .rows) (length-map (take 256 (l .rows)) (with-count 0)))
-kept-by l (enter e d) (ok l′) h =
-    let did = entered-ok e d l l′ h in
+kept-by l (enter e lists d) (ok l′) h =
+    let did = entered-ok e lists d l l′ h in
     rw (← did .is-after) (kept-on (did .rows) (l .rows) (did .one-more .as-many))
 
 -- ------------------------------------------------------------------ a day's end

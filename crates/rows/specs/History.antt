@@ -11,18 +11,19 @@ use Rattle.octets.specs.declared.Refusal.{Refusal}
 use Rattle.rows.specs.declared.Seen.{Seen}
 use Rattle.rows.specs.declared.Row.{Row}
 use Rattle.rows.specs.declared.Entry.{Entry}
+use Rattle.rows.specs.Lists.{Lists}
 use Rattle.rows.specs.Rows.{Listing, on-list, past-list, seen-in, cleared, entered}
 
 -- ------------------------------------------------------------------ calls
 
--- an entry comes with the domain of its applied record
+-- an entry comes with the two lists and the domain of its applied record
 pub data Call : Type 0 where
   clear : Octets → Call
-  enter : Entry → Octets → Call
+  enter : Entry → Lists → Octets → Call
 
 unfoldable pub gives : Call → Listing → OrRefused Listing
 gives (clear d) l = cleared d l
-gives (enter e d) l = entered e d l
+gives (enter e lists d) l = entered e lists d l
 
 -- what a call answers: the refusal, by number and place; number 0 is none
 unfoldable pub refusal-of : OrRefused Listing → Refusal
@@ -47,7 +48,7 @@ History = List (Call × Refusal)
 unfoldable pub with-call : List Seen → Call → (was-accepted : Bool) → List Seen
 with-call seen c false = seen
 with-call seen (clear d) true = []
-with-call seen (enter e d) true = seen-in e ∷ seen
+with-call seen (enter e lists d) true = seen-in e ∷ seen
 
 -- "the number of verdicts accepted since the list was cleared, that number taken from the history of calls"
 unfoldable pub since-clearing : List Seen → History → List Seen
@@ -71,7 +72,7 @@ number f (s ∷ ss) = (if f s then 1 else 0) + number f ss
 
 -- ------------------------------------------------------------------ the claim
 
--- of a history, and the rows after it
+-- of a history, and the rows after it; by Ask 9 the row has two numbers more, "and Ask 1's sum still holds"
 pub record Tallies (h : History) (after : List Row) : Type 0 where
   -- "the sum of all counts equals the number of verdicts accepted since the list was cleared"
   pub sum : total (λ _. true) (on-list after) ≡ length (since-clearing [] h)

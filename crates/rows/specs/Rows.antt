@@ -1,12 +1,12 @@
--- Daily rows of one policy domain (document 02, Ask 1 and, for a final dot, Ask 5): what clearing a list and entering a verdict give. "The report room
--- wants each day's verdicts gathered".
+-- Daily rows of one policy domain (document 02, Ask 1; for a final dot Ask 5, for a row's two numbers Ask 9): what clearing a list and entering a
+-- verdict give. "The report room wants each day's verdicts gathered".
 use mathlib.Core.List.{List, [], _∷_, _++_, map}
 use mathlib.Core.Bool.{Bool, false, _&&_, not, Bool·beq}
 use mathlib.Core.Option.{Option, none as nothing, some as just}
 use Prim.Native.Nat.{ℕ, _+_}
 use lib.Dec.{eqb, leb}
 use lib.ListN.{take, drop}
-use Rattle.octets.specs.Octets.{Octets, if_then_else_, any, same, same-text, lower}
+use Rattle.octets.specs.Octets.{Octets, if_then_else_, is-nothing, is-set, flag, any, same, same-text, lower}
 use Rattle.octets.specs.Refusing.{_>>=_, OrRefused, ok, not-ok, refusal, refuse-if}
 use Rattle.domain.specs.Domain.{Domain, without-dot, is-domain}
 use Rattle.policy.specs.declared.Policy.{Policy}
@@ -20,6 +20,7 @@ use Rattle.rows.specs.declared.Seen.{Seen}
 use Rattle.rows.specs.declared.Row.{Row}
 use Rattle.rows.specs.declared.Finding.{Finding}
 use Rattle.rows.specs.declared.Entry.{Entry}
+use Rattle.rows.specs.Lists.{Lists, named-by}
 
 -- ------------------------------------------------------------------ a row
 
@@ -27,13 +28,16 @@ use Rattle.rows.specs.declared.Entry.{Entry}
 unfoldable pub is-free : Row → Bool
 is-free r = eqb (r .count) 0
 
--- equal "source address (16 octets, IPv4 mapped), disposition, whether DKIM aligned, whether SPF aligned"; that IPv4 is mapped is the caller's to see to
+-- equal "source address (16 octets, IPv4 mapped), disposition, whether DKIM aligned, whether SPF aligned"; that IPv4 is mapped is the caller's to see to.
+-- Ask 9: "rows match only where these are equal too", author domain and set by their places
 unfoldable pub same-seen : Seen → Seen → Bool
 same-seen a b =
     same (a .source) (b .source)
     && eqb (a .disposition) (b .disposition)
-    && Bool·beq (a .dkim) (b .dkim)
-    && Bool·beq (a .spf) (b .spf)
+    && Bool·beq (is-set (a .dkim)) (is-set (b .dkim))
+    && Bool·beq (is-set (a .spf)) (is-set (b .spf))
+    && eqb (a .author) (b .author)
+    && eqb (a .set) (b .set)
 
 -- a "matching row that isn't free"
 unfoldable pub is-match : Seen → Row → Bool
@@ -102,8 +106,11 @@ unfoldable pub seen-in : Entry → Seen
 seen-in e = record {
   source = e .source;
   disposition = e .finding .disposition;
-  dkim = e .finding .dkim;
-  spf = e .finding .spf;
+  dkim = flag (is-set (e .finding .dkim));
+  spf = flag (is-set (e .finding .spf));
+  spare = 0;
+  author = e .author;
+  set = e .set;
 }
 
 -- what 01's verdict says to a list; "whether DKIM aligned": whether an identifier of that kind is
@@ -111,8 +118,8 @@ unfoldable pub finding-of : Message → Verdict → Finding
 finding-of m v = record {
   result = result-number (v .result);
   disposition = disposition-number (v .disposition);
-  dkim = method Kind.Dkim m v .aligned;
-  spf = method Kind.Spf m v .aligned;
+  dkim = flag (method Kind.Dkim m v .aligned);
+  spf = flag (method Kind.Spf m v .aligned);
 }
 
 -- ------------------------------------------------------------------ the two calls
@@ -133,10 +140,12 @@ cleared d l = do
   _ ← refuse-if (not (is-domain (without-dot d))) (refusal 11 0)
   ok (record { domain = just (lower (without-dot d)); rows = map (with-count 0) (on-list (l .rows)) ++ past-list (l .rows) })
 
--- of the verdict and the domain of its applied record: "order 14, 27, 12, 13"; "A later number's place is 0 unless its request says more"
-unfoldable pub entered : Entry → Octets → Listing → OrRefused Listing
-entered e d l = do
+-- of the verdict, the two lists and the domain of its applied record: "order 14, 27, 12, 13"; "Entering a row keeps Ask 1's order, with 28 after 27";
+-- "A later number's place is 0 unless its request says more"
+unfoldable pub entered : Entry → Lists → Octets → Listing → OrRefused Listing
+entered e lists d l = do
   _ ← refuse-if (not (is-judged (e .finding))) (refusal 14 0)
   _ ← refuse-if (not (serves (l .domain) d)) (refusal 27 0)
+  _ ← refuse-if (is-nothing (named-by lists (e .author) (e .set))) (refusal 28 0)
   rows ← counted (seen-in e) (on-list (l .rows))
   ok (record { domain = l .domain; rows = rows ++ past-list (l .rows) })

@@ -1,21 +1,23 @@
 -- Laws of a list by value, by the cases of the code.
-use mathlib.Core.Path.{_≡_, refl}
+use mathlib.Core.Path.{_≡_, refl, sym}
 use mathlib.Core.List.{[], _∷_}
-use mathlib.Core.Bool.{true, false, _||_, or-false, and-true, and-false}
+use mathlib.Core.Bool.{Bool, true, false, not, _||_, or-false, and-true, and-false}
 use mathlib.Core.Option.{Option}
 use Prim.Native.Nat.{ℕ, zero, suc, _-_, _≤_, _<_}
 use native.Mathlib.Omega.{arith}
 use lib.Dec.{eqb}
 use lib.ListN.{length, replicate}
 use borrow.Author.Tests.{ne-eqb}
-use Rattle.octets.specs.Octets.{Octets, any, same-text, lower, part-of}
+use Rattle.octets.specs.Octets.{Octets, is-nothing, any, same-text, lower, part-of}
 use Rattle.octets.specs.Refusing.{refusal}
 use Rattle.octets.specs.Lent.{left}
+use Rattle.octets.proofs.TextLaws.{flag-unset, flag-set}
 use Rattle.domain.specs.Domain.{Domain, without-dot, is-domain}
 use Rattle.policy.specs.declared.Policy.{Policy}
 use Rattle.verdict.specs.declared.Disposition.{Disposition}
 use Rattle.rows.specs.declared.Entry.{Entry}
 use Rattle.rows.specs.declared.Finding.{Finding}
+use Rattle.rows.specs.Lists.{Lists, named-by}
 use Rattle.rows.specs.Rows.{is-judged, result-number, disposition-number, serves}
 use Rattle.rows_day.specs.declared.DayList.{DayList}
 use Rattle.rows_day.specs.Day.{domain-in, named-for}
@@ -24,9 +26,9 @@ use Rattle.rows_check.specs.code.Check.{renamed, check-number}
 -- ------------------------------------------------------------------ a list's name
 
 module _ (l : DayList) (d : Octets) where
-  pub serves-never : l .cleared ≡ false → false ≡ serves (domain-in l) d
+  pub serves-never : l .cleared ≡ 0 → false ≡ serves (domain-in l) d
   unfolding serves domain-in
-  serves-never e = rw e
+  serves-never e = rw (flag-unset (l .cleared) e)
 
   -- of the domain without its dot
   module _ {x : Domain} (q : x ≡ without-dot d) where
@@ -35,13 +37,13 @@ module _ (l : DayList) (d : Octets) where
     renamed-bad e = rw (← q, e)
 
     pub renamed-good : is-domain x ≡ true → (name : Octets) → name ≡ left (lower x) (replicate 253 0)
-        → record { list = record { cleared = true; domain = name; length = length x }; refusal = refusal 0 0 } ≡ renamed l d
+        → record { list = record { cleared = 1; domain = name; length = length x }; refusal = refusal 0 0 } ≡ renamed l d
     unfolding renamed named-for
     renamed-good e name h = rw (← q, e, h)
 
-    pub serves-named : l .cleared ≡ true → same-text x (part-of (l .domain) 0 (l .length)) ≡ serves (domain-in l) d
+    pub serves-named : (l .cleared ≡ 0 → ⊥) → same-text x (part-of (l .domain) 0 (l .length)) ≡ serves (domain-in l) d
     unfolding serves domain-in part-of
-    serves-named e = rw (q, e, at-front (l .length)) refl
+    serves-named e = rw (q, flag-set (l .cleared) e, at-front (l .length)) refl
       where
         at-front : (n : ℕ) → n - 0 ≡ n
         at-front n = omega arith
@@ -74,15 +76,28 @@ module _ (f : Finding) where
     unfolding is-judged result-number any
     by-fail e = rw (applied, ne-eqb (f .result) 1 e, or-false, and-true)
 
-module _ (named : Option Domain) (e : Entry) (d : Octets) where
-  pub not-judged : is-judged (e .finding) ≡ false → 14 ≡ check-number named e d
+module _ (named : Option Domain) (e : Entry) (lists : Lists) (d : Octets) where
+  pub not-judged : is-judged (e .finding) ≡ false → 14 ≡ check-number named e lists d
   unfolding check-number
   not-judged h = rw h
 
-  pub not-served : is-judged (e .finding) ≡ true → serves named d ≡ false → 27 ≡ check-number named e d
+  pub not-served : is-judged (e .finding) ≡ true → serves named d ≡ false → 27 ≡ check-number named e lists d
   unfolding check-number
   not-served h k = rw (h, k)
 
-  pub all-well : is-judged (e .finding) ≡ true → serves named d ≡ true → 0 ≡ check-number named e d
-  unfolding check-number
-  all-well h k = rw (h, k)
+  module _ (h : is-judged (e .finding) ≡ true) (k : serves named d ≡ true) where
+    pub not-named : not (is-nothing (named-by lists (e .author) (e .set))) ≡ false → 28 ≡ check-number named e lists d
+    unfolding check-number
+    not-named n = rw (h, k, off (is-nothing (named-by lists (e .author) (e .set))) n)
+      where
+        off : (b : Bool) → not b ≡ false → b ≡ true
+        off true z = refl
+        off false z = sym z
+
+    pub all-well : not (is-nothing (named-by lists (e .author) (e .set))) ≡ true → 0 ≡ check-number named e lists d
+    unfolding check-number
+    all-well n = rw (h, k, on (is-nothing (named-by lists (e .author) (e .set))) n)
+      where
+        on : (b : Bool) → not b ≡ true → b ≡ false
+        on true z = sym z
+        on false z = refl

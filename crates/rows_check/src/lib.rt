@@ -49,9 +49,9 @@ pub fn rename(list: DayList, domain: &[u8]) -> Changed
     let mut name = [0u8; 253];
     octets_write::write_lower(d, &mut name);
     let named = DayList {
-        cleared: true,
+        cleared: 1,
         domain: name,
-        length: d.len(),
+        length: d.len() as u16,
     };
     answered(named, 0)
 }
@@ -67,11 +67,11 @@ fn same_domain(a: &[u8], b: &[u8]) -> bool
 fn serves(list: DayList, domain: &[u8]) -> bool
     ensures { λ r. ⌜ r ≡ serves (domain-in list) (now (domain .entry)) ⌝ }
 {
-    if !list.cleared {
+    if list.cleared == 0 {
         return false;
     }
     let d = domain_taken::without_dot(domain);
-    same_domain(d, text_parts::part(&list.domain, 0, list.length))
+    same_domain(d, text_parts::part(&list.domain, 0, list.length as usize))
 }
 
 // Whether a finding is a pass or fail.
@@ -87,9 +87,15 @@ fn is_judged(f: Finding) -> bool
     f.result == FAIL
 }
 
-// The number of the refusal that is due before a row is looked for, 14 or 27; 0 is none.
-pub fn check(list: DayList, entry: Entry, domain: &[u8]) -> u8
-    ensures { λ r. ⌜ r ≡ check-number (domain-in list) entry (now (domain .entry)) ⌝ }
+// The number of the refusal that is due before a row is looked for, 14, 27 or 28; 0 is none.
+pub fn check<'a>(
+    list: DayList,
+    entry: Entry,
+    domain: &'a [u8],
+    authors: &'a [u8],
+    sets: &'a [u8],
+) -> u8
+    ensures { λ r. ⌜ r ≡ check-number (domain-in list) entry (record { authors = now (authors .entry); sets = now (sets .entry) }) (now (domain .entry)) ⌝ }
 {
     let finding = entry.finding;
     if !is_judged(finding) {
@@ -97,6 +103,9 @@ pub fn check(list: DayList, entry: Entry, domain: &[u8]) -> u8
     }
     if !serves(list, domain) {
         return 27;
+    }
+    if !rows_named::is_named(authors, sets, entry.author, entry.set) {
+        return 28;
     }
     0
 }
@@ -110,7 +119,10 @@ pub fn seen_in(entry: Entry) -> Seen
     Seen {
         source,
         disposition: finding.disposition,
-        dkim: finding.dkim,
-        spf: finding.spf,
+        dkim: octets_write::number_flag(finding.dkim != 0),
+        spf: octets_write::number_flag(finding.spf != 0),
+        spare: 0,
+        author: entry.author,
+        set: entry.set,
     }
 }

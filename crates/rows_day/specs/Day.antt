@@ -4,7 +4,7 @@ use mathlib.Core.List.{List, [], _∷_}
 use mathlib.Core.Bool.{true, false}
 use mathlib.Core.Option.{Option, none as nothing, some as just}
 use lib.ListN.{length, take, replicate}
-use Rattle.octets.specs.Octets.{Octets, if_then_else_, is-nothing, lower}
+use Rattle.octets.specs.Octets.{Octets, if_then_else_, is-nothing, is-set, lower}
 use Rattle.octets.specs.Lent.{left}
 use Rattle.octets.specs.declared.Refusal.{Refusal}
 use Rattle.domain.specs.Domain.{Domain, without-dot}
@@ -18,24 +18,24 @@ use Rattle.rows_day.specs.declared.Changed.{Changed}
 
 -- the policy domain of a list
 unfoldable pub domain-in : DayList → Option Domain
-domain-in l = if l .cleared then just (take (l .length) (l .domain)) else nothing
+domain-in l = if is-set (l .cleared) then just (take (l .length) (l .domain)) else nothing
 
 unfoldable pub listing : DayList → List Row → Listing
 listing l rows = record { domain = domain-in l; rows = rows }
 
 -- the list that no call was made on, and the one that is named for a domain: in lower case, without a final dot, what lies past it 0
 unfoldable pub never-cleared : DayList
-never-cleared = record { cleared = false; domain = replicate 253 0; length = 0 }
+never-cleared = record { cleared = 0; domain = replicate 253 0; length = 0 }
 
 unfoldable pub named-for : Octets → DayList
-named-for d = record { cleared = true; domain = left (lower (without-dot d)) (replicate 253 0); length = length (without-dot d) }
+named-for d = record { cleared = 1; domain = left (lower (without-dot d)) (replicate 253 0); length = length (without-dot d) }
 
 -- ------------------------------------------------------------------ the promise of both calls
 
 -- the list that a call gives back: only an accepted clearing gives another
 unfoldable pub list-after : Call → DayList → Refusal → DayList
 list-after (clear d) list f = if is-accepted f then named-for d else list
-list-after (enter e d) list f = list
+list-after (enter e lists d) list f = list
 
 -- of the call, the list and the rows that it gets, what it answers, and the rows that it leaves
 pub record Does (c : Call) (list : DayList) (before : List Row) (r : Changed) (after : List Row) : Type 0 where

@@ -2,9 +2,9 @@
 use mathlib.Core.Path.{_≡_}
 use mathlib.Core.Bool.{true, false, Bool·beq}
 use Prim.Native.Nat.{ℕ, _+_, _<_, _≤_}
-use lib.Dec.{leb}
+use lib.Dec.{eqb, leb}
 use borrow.Author.Tests.{lt-ltb, le-ltb, eq-eqb, ne-eqb}
-use Rattle.octets.specs.Octets.{same}
+use Rattle.octets.specs.Octets.{is-set, same}
 use Rattle.rows.specs.declared.Seen.{Seen}
 use Rattle.rows.specs.declared.Row.{Row}
 use Rattle.rows.specs.Rows.{is-free, same-seen, is-match, with-count}
@@ -40,13 +40,23 @@ module _ (a b : Seen) where
   unfolding same-seen
   other-disposition e f = rw (e, ne-eqb _ _ f)
 
-  pub other-dkim : same (a .source) (b .source) ≡ true → a .disposition ≡ b .disposition → Bool·beq (a .dkim) (b .dkim) ≡ false → false ≡ same-seen a b
+  pub other-dkim : same (a .source) (b .source) ≡ true → a .disposition ≡ b .disposition → Bool·beq (is-set (a .dkim)) (is-set (b .dkim)) ≡ false → false ≡ same-seen a b
   unfolding same-seen
   other-dkim e f g = rw (e, eq-eqb _ _ f, g)
 
-  pub by-spf : same (a .source) (b .source) ≡ true → a .disposition ≡ b .disposition → Bool·beq (a .dkim) (b .dkim) ≡ true → Bool·beq (a .spf) (b .spf) ≡ same-seen a b
+  pub other-spf : same (a .source) (b .source) ≡ true → a .disposition ≡ b .disposition → Bool·beq (is-set (a .dkim)) (is-set (b .dkim)) ≡ true → Bool·beq (is-set (a .spf)) (is-set (b .spf)) ≡ false → false ≡ same-seen a b
   unfolding same-seen
-  by-spf e f g = rw (e, eq-eqb _ _ f, g)
+  other-spf e f g h = rw (e, eq-eqb _ _ f, g, h)
+
+  pub other-author : same (a .source) (b .source) ≡ true → a .disposition ≡ b .disposition → Bool·beq (is-set (a .dkim)) (is-set (b .dkim)) ≡ true → Bool·beq (is-set (a .spf)) (is-set (b .spf)) ≡ true
+      → (a .author ≡ b .author → ⊥) → false ≡ same-seen a b
+  unfolding same-seen
+  other-author e f g h i = rw (e, eq-eqb _ _ f, g, h, ne-eqb _ _ i)
+
+  pub by-set : same (a .source) (b .source) ≡ true → a .disposition ≡ b .disposition → Bool·beq (is-set (a .dkim)) (is-set (b .dkim)) ≡ true → Bool·beq (is-set (a .spf)) (is-set (b .spf)) ≡ true
+      → a .author ≡ b .author → eqb (a .set) (b .set) ≡ same-seen a b
+  unfolding same-seen
+  by-set e f g h i = rw (e, eq-eqb _ _ f, g, h, eq-eqb _ _ i)
 
 module _ (n : ℕ) (r : Row) (at free : ℕ) where
   pub had-free : free < n → free ≡ next-free n r at free

@@ -1,8 +1,9 @@
 // What is done with one row of a day's list, by value.
 ghost use mathlib.Core.Path.{_≡_};
+ghost use mathlib.Core.Bool.{Bool·beq};
 ghost use Prim.Native.Nat.{min};
 ghost use lib.Dec.{leb};
-ghost use Rattle.octets.specs.Octets.{same};
+ghost use Rattle.octets.specs.Octets.{is-set, same};
 ghost use Rattle.rows.specs.Rows.{is-free, same-seen, is-match, with-count};
 ghost use Rattle.rows_match.specs.code.Match.{noted, next-free};
 use rows::Row;
@@ -27,6 +28,15 @@ fn same_source(a: [u8; 16], b: [u8; 16]) -> bool
     text_parts::same_octets(&a, &b)
 }
 
+// Whether two flags are read alike.
+fn same_flag(a: u8, b: u8) -> bool
+    ensures { λ r. ⌜ r ≡ Bool·beq (is-set a) (is-set b) ⌝ }
+{
+    let first = a != 0;
+    let second = b != 0;
+    first == second
+}
+
 // Whether the same was seen.
 fn same_seen(a: Seen, b: Seen) -> bool
     ensures { λ r. ⌜ r ≡ same-seen a b ⌝ }
@@ -39,10 +49,16 @@ fn same_seen(a: Seen, b: Seen) -> bool
     if a.disposition != b.disposition {
         return false;
     }
-    if a.dkim != b.dkim {
+    if !same_flag(a.dkim, b.dkim) {
         return false;
     }
-    a.spf == b.spf
+    if !same_flag(a.spf, b.spf) {
+        return false;
+    }
+    if a.author != b.author {
+        return false;
+    }
+    a.set == b.set
 }
 
 // Whether a row isn't free and is for what was seen.

@@ -20,7 +20,7 @@ use Rattle.rows_note.specs.code.Note.{place, row-for}
 
 -- what stands where there is no row
 abbrev pub no-row : Row
-no-row = record { seen = record { source = replicate 16 0; disposition = 0; dkim = false; spf = false }; count = 0 }
+no-row = record { seen = record { source = replicate 16 0; disposition = 0; dkim = 0; spf = 0; spare = 0; author = 0; set = 0 }; count = 0 }
 
 pub getD-take : (n : ℕ) (rs : List Row) (i : ℕ) (d : Row) → i < n → getD (take n rs) i d ≡ getD rs i d
 getD-take zero rs i d l = absurd (not-suc-le-zero l)

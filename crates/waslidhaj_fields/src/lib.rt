@@ -1,19 +1,10 @@
 // For programs in other languages: an Identity-Alignment field is read.
 ghost use mathlib.Core.Path.{_≡_};
 ghost use Rattle.field.specs.Numbers.{field-read};
-ghost use Rattle.field.specs.Numbers.{flag, field-read-numbers};
+ghost use Rattle.field.specs.Numbers.{field-read-numbers};
 use field::FieldNumbers;
 use field::FieldRead;
 use octets::Refusal;
-
-fn number_flag(b: bool) -> u8
-    ensures { λ r. ⌜ r ≡ flag b ⌝ }
-{
-    if b {
-        return 1;
-    }
-    0
-}
 
 // What was read, by numbers.
 fn number_field(read: FieldRead) -> FieldNumbers
@@ -25,8 +16,8 @@ fn number_field(read: FieldRead) -> FieldNumbers
                 number: 0,
                 place: 0,
             },
-            dkim: number_flag(m.dkim),
-            spf: number_flag(m.spf),
+            dkim: octets_write::number_flag(m.dkim),
+            spf: octets_write::number_flag(m.spf),
         },
         FieldRead::Refused(refusal) => FieldNumbers {
             refusal,

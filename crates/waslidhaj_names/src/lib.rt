@@ -2,7 +2,7 @@
 ghost use mathlib.Core.Path.{_≡_};
 ghost use mathlib.Core.Bool.{not};
 ghost use lib.Dec.{eqb};
-ghost use Rattle.octets.specs.Lent.{written-if, left-if, written-numbers};
+ghost use Rattle.octets.specs.Lent.{WritesByNumbers};
 ghost use Rattle.reporting.specs.FileName.{given-id, file-name};
 use octets::WrittenNumbers;
 
@@ -18,7 +18,7 @@ pub extern "C" fn waslidhaj_file_name_apart<'a>(
     id: &'a [u8],
     out: &mut [u8],
 ) -> WrittenNumbers
-    ensures { λ r. ⌜ (r ≡ written-numbers (written-if (file-name (now (receiver .entry)) (now (domain .entry)) begin end (given-id (not (eqb named 0)) (now (id .entry)))) (now (out .entry)))) × (now (out .exit) ≡ left-if (file-name (now (receiver .entry)) (now (domain .entry)) begin end (given-id (not (eqb named 0)) (now (id .entry)))) (now (out .entry))) ⌝ }
+    ensures { λ r. ⌜ WritesByNumbers (file-name (now (receiver .entry)) (now (domain .entry)) begin end (given-id (not (eqb named 0)) (now (id .entry)))) (now (out .entry)) r (now (out .exit)) ⌝ }
 {
     let written = reporting_name::write_file_name(
         receiver,

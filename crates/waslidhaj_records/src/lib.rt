@@ -1,6 +1,6 @@
 // For programs in other languages: a policy record is written, and a text read as one.
 ghost use mathlib.Core.Path.{_≡_};
-ghost use Rattle.octets.specs.Lent.{written-if, left-if, written-numbers};
+ghost use Rattle.octets.specs.Lent.{WritesByNumbers};
 ghost use Rattle.policy.specs.Records.{read-policy, rua-bounds};
 ghost use Rattle.publishing.specs.Publishing.{written-record};
 ghost use Rattle.publishing.specs.Numbers.{settings-in, read-numbers};
@@ -16,7 +16,7 @@ pub extern "C" fn waslidhaj_write_record_apart(
     rua: &[u8],
     out: &mut [u8],
 ) -> WrittenNumbers
-    ensures { λ r. ⌜ (r ≡ written-numbers (written-if (written-record (settings-in numbers) (now (rua .entry))) (now (out .entry)))) × (now (out .exit) ≡ left-if (written-record (settings-in numbers) (now (rua .entry))) (now (out .entry))) ⌝ }
+    ensures { λ r. ⌜ WritesByNumbers (written-record (settings-in numbers) (now (rua .entry))) (now (out .entry)) r (now (out .exit)) ⌝ }
 {
     let settings = publishing_numbers::settings_in(numbers);
     octets_write::number_written(publishing_write::write_record(settings, rua, out))

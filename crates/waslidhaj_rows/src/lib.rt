@@ -1,5 +1,5 @@
 // For programs in other languages: a day's list of rows is cleared, and verdicts are entered. The last two are thin, and each is
-// proved by a walk of its MIR by hand: the borrow checker covers none that has a `&mut [Row]`. The text and the rows lent to them
+// proved by a walk of its MIR by hand: the borrow checker covers none that has a `&mut [Row]`. The texts and the rows lent to them
 // nowhere overlap: the C header's `waslidhaj_clear` and `waslidhaj_enter` see to it.
 ghost use mathlib.Core.Path.{_≡_};
 ghost use Rattle.rows.specs.History.{clear, enter};
@@ -15,7 +15,7 @@ pub extern "C" fn waslidhaj_new_list() -> DayList
     ensures { λ r. ⌜ r ≡ never-cleared ⌝ }
 {
     DayList {
-        cleared: false,
+        cleared: 0,
         domain: [0; 253],
         length: 0,
     }
@@ -34,17 +34,19 @@ pub extern "C" fn waslidhaj_clear_apart(list: DayList, domain: &[u8], rows: &mut
     changed
 }
 
-// A verdict is entered, with the domain of its applied record.
+// A verdict is entered, with the domain of its applied record and the lists beside the rows.
 #[no_mangle]
-pub extern "C" fn waslidhaj_enter_apart(
+pub extern "C" fn waslidhaj_enter_apart<'a>(
     list: DayList,
     entry: Entry,
-    domain: &[u8],
+    domain: &'a [u8],
+    authors: &'a [u8],
+    sets: &'a [u8],
     rows: &mut [Row],
 ) -> Changed
-    ensures { λ r. ⌜ Does (enter entry (now (domain .entry))) list (now (rows .entry)) r (now (rows .exit)) ⌝ }
+    ensures { λ r. ⌜ Does (enter entry (record { authors = now (authors .entry); sets = now (sets .entry) }) (now (domain .entry))) list (now (rows .entry)) r (now (rows .exit)) ⌝ }
 {
-    let checked = rows_check::check(list, entry, domain);
+    let checked = rows_check::check(list, entry, domain, authors, sets);
     if checked != 0 {
         return rows_check::answered(list, checked);
     }

@@ -1,16 +1,15 @@
 //! Holds the proved daily rows to the second evaluator's, history by history:
 //! after every call the answer, the list and all lent rows.
 
-mod agreement;
-mod code;
-mod domains;
+pub mod agreement;
+pub mod code;
 mod generate;
-mod history;
-mod odd;
+pub mod history;
+pub mod odd;
 mod sums;
-mod tally;
+pub mod tally;
 #[cfg(test)]
-mod tests;
+pub mod tests;
 
 use agreement::check;
 use code::Code;

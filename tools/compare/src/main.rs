@@ -1,22 +1,27 @@
 //! Compares the proved evaluator with the second one, sheet by sheet and call by
 //! call, the proved checks of report addresses, call by call, the proved daily rows
-//! with the second evaluator's, history by history, the proved writer and reader of
-//! policy records, record by record, and the proved reader of the Identity-Alignment
-//! field, field by field.
+//! with the second evaluator's, history by history, the proved aggregate reports, day
+//! by day, the proved writer and reader of policy records, record by record, and the
+//! proved reader of the Identity-Alignment field, field by field.
 
 #![forbid(unsafe_code)]
 
 mod addresses;
 mod agreement;
 mod alike;
+mod beside;
 mod calls;
 mod cases;
 mod checks;
+mod domains;
 mod fields;
 mod histories;
+mod processor;
 mod program;
 mod publishing;
 mod refused;
+mod report_time;
+mod reports;
 mod states;
 mod time;
 mod timing;
@@ -42,10 +47,12 @@ const USAGE: &str = "usage:
   compare checks COUNT SEED
   compare vectors
   compare histories COUNT SEED
+  compare reports COUNT SEED
   compare records COUNT SEED
   compare fields COUNT SEED
   compare time COUNT SEED
-  compare timing COUNT";
+  compare timing COUNT
+  compare report-time COUNT";
 
 fn main() -> ExitCode {
     command::run(|words| match words {
@@ -57,10 +64,12 @@ fn main() -> ExitCode {
         ["checks", count, seed] => compare_checks([count, seed]),
         ["vectors"] => compare_vectors(),
         ["histories", count, seed] => compare_histories([count, seed]),
+        ["reports", count, seed] => compare_reports([count, seed]),
         ["records", count, seed] => compare_records([count, seed]),
         ["fields", count, seed] => compare_fields([count, seed]),
         ["time", count, seed] => print_times([count, seed]),
         ["timing", count] => print_timing([count]),
+        ["report-time", count] => print_report_time([count]),
         _ => Err(USAGE.to_string()),
     })
 }
@@ -187,6 +196,13 @@ fn compare_histories(words: [&str; 2]) -> Result<(), String> {
     Ok(())
 }
 
+/// Aggregate reports and subjects by both, in this process.
+fn compare_reports(words: [&str; 2]) -> Result<(), String> {
+    let [count, seed] = numbers(words)?;
+    println!("{}", reports::compare(&histories::Proved, count, seed)?);
+    Ok(())
+}
+
 /// Policy records by both, in this process.
 fn compare_records(words: [&str; 2]) -> Result<(), String> {
     let [count, seed] = numbers(words)?;
@@ -216,4 +232,10 @@ fn print_times(words: [&str; 2]) -> Result<(), String> {
 fn print_timing(words: [&str; 1]) -> Result<(), String> {
     let [count] = numbers(words)?;
     timing::print(count)
+}
+
+/// The time of the proved report.
+fn print_report_time(words: [&str; 1]) -> Result<(), String> {
+    let [count] = numbers(words)?;
+    report_time::print(count)
 }

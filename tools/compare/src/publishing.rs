@@ -3,7 +3,7 @@
 //! again.
 
 mod check;
-mod generate;
+pub mod generate;
 mod odd;
 mod rua;
 mod tally;

@@ -1,12 +1,9 @@
 //! The processor time of the proved calls, on messages whose walks are all of full
 //! length, and of the proved reader of the field.
 
-use std::fs;
 use std::hint::black_box;
-use std::sync::OnceLock;
-use std::thread;
-use std::time::{Duration, Instant};
 
+use crate::processor::{least, microseconds};
 use evaluator::txt::Status;
 use sheets::programs::calls::{AnswerCall, Call};
 use sheets::programs::timing::{message, IDENTIFIERS, WALKS};
@@ -24,7 +21,7 @@ pub fn print(count: u64) -> Result<(), String> {
             let calls = message(identifiers, walk);
             let mut evaluation = Evaluation::EMPTY;
             let names = replay(&calls, &mut evaluation)?;
-            let time = least(|| {
+            let time = least(ROUNDS, || {
                 for _ in 0..count {
                     let _ = black_box(replay(black_box(&calls), &mut evaluation));
                 }
@@ -54,7 +51,7 @@ fn print_fields(count: u64) {
 }
 
 fn print_field(name: &str, field: &[u8], count: u64) {
-    let time = least(|| {
+    let time = least(ROUNDS, || {
         for _ in 0..count {
             let _ = black_box(waslidhaj::read_field(black_box(field)));
         }
@@ -125,7 +122,7 @@ fn print_steps(count: u64) -> Result<(), String> {
 
 /// Microseconds of one of these calls.
 fn time_of(places: &[Place], count: u64) -> f64 {
-    let time = least(|| {
+    let time = least(ROUNDS, || {
         for _ in 0..count {
             for (evaluation, call) in places {
                 let mut evaluation = *evaluation;
@@ -134,37 +131,6 @@ fn time_of(places: &[Place], count: u64) -> f64 {
         }
     });
     microseconds(time, count * places.len() as u64)
-}
-
-fn microseconds(time: Duration, count: u64) -> f64 {
-    time.as_secs_f64() * 1e6 / count.max(1) as f64
-}
-
-/// The least time of several rounds.
-fn least(mut round: impl FnMut()) -> Duration {
-    let times = (0..ROUNDS).map(|_| {
-        let begin = now();
-        round();
-        now().saturating_sub(begin)
-    });
-    times.min().unwrap_or_default()
-}
-
-/// The processor time of this process so far; where the system does not say, the
-/// time that passed.
-fn now() -> Duration {
-    static BEGIN: OnceLock<Instant> = OnceLock::new();
-    let begin = *BEGIN.get_or_init(Instant::now);
-    processor_time().unwrap_or_else(|| begin.elapsed())
-}
-
-/// Nanoseconds on a processor are the first number of this file of Linux, which is
-/// brought up to date where the processor is given away.
-fn processor_time() -> Option<Duration> {
-    thread::yield_now();
-    let text = fs::read_to_string("/proc/self/schedstat").ok()?;
-    let nanoseconds = text.split_whitespace().next()?.parse().ok()?;
-    Some(Duration::from_nanos(nanoseconds))
 }
 
 #[cfg(test)]
@@ -180,15 +146,5 @@ mod tests {
         let late = [Call::Next];
         let refused = replay(&late, &mut Evaluation::default());
         assert_eq!(refused, Err("refused 7 at 0".to_string()));
-    }
-
-    #[test]
-    fn time_goes_on() {
-        let begin = now();
-        let mut rounds = 0_u64;
-        while now() == begin && rounds < 1_000_000 {
-            rounds += 1;
-        }
-        assert!(now() > begin, "{rounds} rounds");
     }
 }

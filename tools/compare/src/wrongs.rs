@@ -1,5 +1,7 @@
 //! Rules that can be broken, for tests of what a comparison sees.
 
+use std::fmt::Debug;
+
 /// Declares the rules, each once: `Wrong` with a case for each and one for none,
 /// and `ALL` of them.
 macro_rules! wrongs {
@@ -17,3 +19,15 @@ macro_rules! wrongs {
 }
 
 pub(crate) use wrongs;
+
+/// The rules that are found nowhere; where each other one is found is printed.
+pub fn lost<W: Copy + Debug>(all: &[W], mut found: impl FnMut(W) -> Option<String>) -> Vec<W> {
+    let mut lost = Vec::new();
+    for wrong in all.iter().copied() {
+        match found(wrong) {
+            Some(place) => println!("{wrong:?}: {place}"),
+            None => lost.push(wrong),
+        }
+    }
+    lost
+}

@@ -92,19 +92,16 @@ pub fn plain(name: &str) -> &str {
     over.into_iter().flatten().next().unwrap_or(name)
 }
 
-/// The names of a declaration such as `uint8_t a, b[3]`.
+/// The names of a declaration such as `uint8_t a, b[3]` or `const uint8_t *a`.
 fn fields(declaration: &str) -> Vec<String> {
     let names = declaration
         .trim()
         .split_once(' ')
         .map_or("", |(_, names)| names);
-    let names = names
-        .split(',')
-        .map(|name| name.split('[').next().unwrap_or_default().trim());
-    names
-        .filter(|name| !name.is_empty())
-        .map(str::to_string)
-        .collect()
+    let names = names.split(',');
+    let names = names.filter_map(|name| name.split_whitespace().next_back());
+    let names = names.filter_map(|name| name.trim_start_matches('*').split('[').next());
+    names.map(str::to_string).collect()
 }
 
 #[cfg(test)]
@@ -115,12 +112,12 @@ mod tests {
     fn structs_enumerators_and_functions() {
         let text = "/* a; { */\nextern \"C\" {\nenum { A, B = 2 /* b, */ };\nenum {\n  C\n};\n\
             #define OWN __attribute__((noinline))\n\
-            typedef struct {\n  int a, b[2];\n  /* c; */ x_y c;\n} x_z;\n\
+            typedef struct {\n  int a, b[2];\n  /* c; */ x_y c;\n  const int *d;\n} x_z;\n\
             static inline int f(int a) {\n  if (a) {\n    g(1);\n  }\n  return h();\n}\n\
             x_z g(int a,\n  int b);\nint h(void);\nstatic OWN int i(int a) { return a; }\n}\n";
         let header = Header::read(text);
         assert_eq!(header.enumerators(), ["A", "B", "C"]);
-        let fields = ["a", "b", "c"].map(str::to_string).to_vec();
+        let fields = ["a", "b", "c", "d"].map(str::to_string).to_vec();
         let name = "x_z".to_string();
         assert_eq!(header.structs(), [Struct { name, fields }]);
         assert_eq!(header.functions(), ["g", "h"]);

@@ -75,13 +75,14 @@ fn rows(text: &str, table: &str, words: &[&str]) -> String {
 
 /// Files with computed examples that are records, and those that are tables, with
 /// the words of which each row has one.
-const EXAMPLES: [&str; 6] = [
+const EXAMPLES: [&str; 7] = [
     "domain/specs/FinalDot.antt",
     "policy/specs/Repeated.antt",
     "reporting/specs/Examples.antt",
     "book/specs/AddingCalls.antt",
     "verdict/specs/StoredExamples.antt",
     "field/specs/Examples.antt",
+    "report/specs/Examples.antt",
 ];
 const TABLES: [(&str, &str, &[&str]); 17] = [
     ("sheet/specs/Marked.antt", "table", &["row"]),

@@ -10,16 +10,15 @@ use std::process::Command;
 use desk::compiler::{archive, compile};
 use desk::header::{plain, Header, Struct};
 use desk::root;
-use waslidhaj::raw::{
-    Called, Entry, FieldRead, Found, Given, List, ListChanged, RecordRead, Refusal,
-};
+use waslidhaj::raw::{Called, Entry, FieldRead, Found, Gathered, Given};
 use waslidhaj::raw::{Check, CheckCalled, CheckGiven};
 use waslidhaj::raw::{FindingNumbers, Row, Seen, Settings, State, Verdict, Written};
+use waslidhaj::raw::{List, ListChanged, RecordRead, Refusal};
 use waslidhaj::raw::{ACCEPTED, ASK, OUTCOME, REFUSED, VERDICT};
 use waslidhaj::raw::{ADDRESS_CONFIRMED, ADDRESS_INSIDE, ADDRESS_NO};
 use waslidhaj::raw::{ADDRESS_NOT_KNOWN, ADDRESS_REPLACED};
 use waslidhaj::{Alignment, AppliedPolicy, Disposition, DmarcResult};
-use waslidhaj::{Existence, Kind, Outcome};
+use waslidhaj::{Existence, Kind, Outcome, Report, ReportLists, ReportedIdentifier, Subject};
 use waslidhaj::{CHECK_NAMES, CHECK_NAME_OCTETS};
 use waslidhaj::{DOMAIN_OCTETS, NAME_OCTETS, PRINTED_OCTETS, SCRATCH_OCTETS};
 use waslidhaj::{IDENTIFIERS, NAMES, ROWS, RUN_STACK_OCTETS, STACK_OCTETS, VERSION};
@@ -101,6 +100,29 @@ macro_rules! layout {
     }};
 }
 
+/// A lent text in C, which has two of its structs of them; Rust lends slices.
+#[repr(C)]
+struct Text {
+    octets: *const u8,
+    length: usize,
+}
+
+#[repr(C)]
+struct Lists {
+    authors: Text,
+    sets: Text,
+}
+
+#[repr(C)]
+struct Reporter {
+    organization: Text,
+    email: Text,
+    contact: Text,
+    id: Text,
+    begin: u64,
+    end: u64,
+}
+
 fn layouts() -> String {
     [
         layout!(Refusal: number place),
@@ -111,15 +133,19 @@ fn layouts() -> String {
             kept stored identifiers count ruling_begin ruling_settings ruling_policy walk
             record_begin record_settings target_begin target_wider more),
         layout!(Called: state given),
-        layout!(Seen: source disposition dkim spf),
+        layout!(Seen: source disposition dkim spf spare author set),
         layout!(Row: seen count),
         layout!(List: cleared domain length),
         layout!(FindingNumbers: result disposition dkim spf),
-        layout!(Entry: source finding),
+        layout!(Entry: source finding author set),
         layout!(ListChanged: list refusal),
         layout!(Found: kind finding begin refusal),
+        layout!(Text: octets length),
+        layout!(Lists: authors sets),
         layout!(Settings: p sp np adkim aspf psd t),
         layout!(RecordRead: is_record settings reports rua_begin rua_length),
+        layout!(Reporter: organization email contact id begin end),
+        layout!(Gathered: count octets),
         layout!(FieldRead: refusal dkim spf),
         layout!(Check: started asked confirmed domains numbers kept count point_kind
             organization found record_begin record_settings target_begin target_wider more
@@ -159,6 +185,9 @@ fn numbers() -> Vec<(&'static str, usize)> {
         ("IDENTIFIERS", IDENTIFIERS),
         ("NAMES", NAMES),
         ("ROWS", ROWS),
+        ("SET_OCTETS", IDENTIFIERS * (4 + 3 + 2 * (DOMAIN_OCTETS + 1))),
+        ("REPORT_OCTETS", Report::OCTETS),
+        ("SUBJECT_OCTETS", Subject::OCTETS),
         ("STACK_OCTETS", STACK_OCTETS),
         ("RUN_STACK_OCTETS", RUN_STACK_OCTETS),
         ("MISSING", Existence::Missing as usize),
@@ -231,16 +260,113 @@ fn an_alignment_of_a_verdict() {
     });
 }
 
+/// An identifier that passes DKIM, and one that does not pass SPF.
+const BOTH: [ReportedIdentifier<'_>; 2] = [
+    ReportedIdentifier {
+        kind: Kind::Dkim,
+        outcome: Outcome::Pass,
+        selector: b"s1",
+        domain: b"example.com",
+    },
+    ReportedIdentifier {
+        kind: Kind::Spf,
+        outcome: Outcome::NotPassing,
+        selector: b"",
+        domain: b"bounce.example.net",
+    },
+];
+
+/// Octets as the header shows them: words in quotes, and numbers.
+fn shown(line: &str) -> Vec<u8> {
+    let words = line.split_whitespace().filter(|word| !word.contains('*'));
+    words.fold(Vec::new(), |mut octets, word| {
+        match word.parse::<u8>() {
+            Ok(octet) => octets.push(octet),
+            Err(_) => octets.extend(word.trim_matches('"').bytes()),
+        }
+        octets
+    })
+}
+
+#[test]
+fn the_lists_that_the_header_shows() {
+    let text = fs::read_to_string(root().join("include/waslidhaj.h")).expect("the header");
+    let lines = text.lines().filter(|line| line.starts_with(" *   \""));
+    let shown: Vec<Vec<u8>> = lines.map(shown).collect();
+    let mut beside = ReportLists::new();
+    assert_eq!(beside.author("example.com"), Some(0));
+    assert_eq!((beside.set(&BOTH), beside.set(&[])), (Some(0), Some(1)));
+    assert_eq!(shown, [beside.lists().authors, beside.lists().sets]);
+}
+
+/// What the C program packs, in Rust: the places, and the octets of both lists.
+fn packed() -> String {
+    let mut beside = ReportLists::new();
+    let authors = ["example.com", "news.example.com", "example.com", ""];
+    let authors = authors.map(|domain| beside.author(domain));
+    let sets = [&BOTH[..], &[], &BOTH, &BOTH[1..]].map(|set| beside.set(set));
+    let places = authors.into_iter().chain(sets).flatten();
+    let places: String = places.map(|place| format!("{place} ")).collect();
+    let octets = |list: &[u8]| -> String {
+        let octets = list.iter().map(|octet| format!("{octet:02x}"));
+        octets.collect()
+    };
+    let [authors, sets] = [beside.lists().authors, beside.lists().sets].map(octets);
+    format!("{places}\n{authors}\n{sets}\n")
+}
+
+/// The functions of the header pack the lists; in memory too short they write
+/// nothing.
+#[test]
+fn lists_are_packed_as_in_rust() {
+    let expected = packed();
+    printed_by_each("lists", include_str!("header/lists.c"), |printed| {
+        assert_eq!(printed, expected);
+    });
+}
+
+/// One record of the day's report, by its source, count and author domain.
+fn record(source: &str, count: u32, author: &str) -> String {
+    format!(
+        "<record><row><source_ip>{source}</source_ip><count>{count}</count>\
+         <policy_evaluated><disposition>pass</disposition><dkim>pass</dkim><spf>fail</spf>\
+         </policy_evaluated></row><identifiers><header_from>{author}</header_from></identifiers>\
+         <auth_results><dkim><domain>mail.example.com</domain><selector>s1</selector>\
+         <result>pass</result></dkim><spf><domain>bounce.example.net</domain>\
+         <result>fail</result></spf></auth_results></record>"
+    )
+}
+
+/// A whole day in C, to the report and the subject of its mail.
+#[test]
+fn a_day_and_its_report() {
+    let head = "<?xml version=\"1.0\" encoding=\"UTF-8\"?>\
+        <feedback xmlns=\"urn:ietf:params:xml:ns:dmarc-2.0\"><report_metadata>\
+        <org_name>Gate &amp; Sons</org_name><email>dmarc@gate.example</email>\
+        <report_id>r7</report_id><date_range><begin>1700000000</begin><end>1700086399</end>\
+        </date_range></report_metadata><policy_published><domain>example.com</domain>\
+        <p>reject</p><adkim>r</adkim><aspf>r</aspf><testing>n</testing></policy_published>";
+    let records = [
+        record("192.0.2.1", 2, "example.com"),
+        record("192.0.2.2", 1, "news.example.com"),
+    ];
+    let subject = "Report Domain: example.com Submitter: gate.example Report-ID: <r7>";
+    let expected = format!("{head}{}</feedback>\n{subject}\n", records.concat());
+    printed_by_each("day", include_str!("header/day.c"), |printed| {
+        assert_eq!(printed, expected);
+    });
+}
+
 /// A function that has memory to read and memory to write takes any: it is defined
 /// in the header over the archive's own, of memory that nowhere overlaps. So is one
 /// that takes a check where it lies, over that of a check by value.
 #[test]
 fn every_function_is_in_the_archive() {
     let (mut functions, defined) = (header().functions(), header().defined());
-    assert_eq!(functions.len(), 22, "{functions:?}");
+    assert_eq!(functions.len(), 25, "{functions:?}");
     let over = functions.iter().filter(|name| plain(name) != *name);
     let over: Vec<String> = over.map(|name| plain(name).to_string()).collect();
-    assert_eq!(over.len(), 11, "{over:?}");
+    assert_eq!(over.len(), 13, "{over:?}");
     assert!(over.iter().all(|name| defined.contains(name)), "{over:?}");
     functions.extend(over);
     let entry = |name: &String| format!("  (void (*)(void)){name},");

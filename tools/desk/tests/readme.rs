@@ -138,6 +138,8 @@ fn every_example_of_a_command() {
         "--read",
         "--field",
         "--address",
+        "--day",
+        "--report",
     ] {
         let shown = examples.iter().any(|own| own.command.contains(option));
         assert!(shown, "README.md has no example of ./dmarc {option}");
@@ -214,6 +216,8 @@ const RUN: &[(&str, i32)] = &[
     ("./dmarc --read", 2),
     ("./dmarc --field", 2),
     ("./dmarc --address", 2),
+    ("./dmarc --day", 2),
+    ("./dmarc --report", 2),
 ];
 /// Commands that are not run, and why.
 const NOT_RUN: &[(&str, &str)] = &[

@@ -7,12 +7,14 @@
 #![forbid(unsafe_code)]
 
 pub mod address;
+pub mod aggregate;
 mod asking;
 pub mod book;
 pub mod domain;
 pub mod evaluate;
 pub mod field;
 pub mod grounds;
+pub mod lists;
 pub mod message;
 pub mod policy;
 pub mod publishing;

@@ -43,6 +43,22 @@ fn listed<T: Copy>(meanings: &[T], number: u8) -> Option<T> {
     meanings.get(usize::from(number)).copied()
 }
 
+/// The kind and outcome of an identifier that comes behind those of these kinds: 3
+/// for numbers that are not listed; 4 for "a 17th identifier, or a second SPF",
+/// whatever its outcome.
+pub fn admitted(before: &[Kind], kind: u8, outcome: u8) -> Result<(Kind, Outcome), Refusal> {
+    let index = before.len();
+    let (kind, outcome) = (listed(&KINDS, kind), listed(&OUTCOMES, outcome));
+    let (Some(kind), Some(outcome)) = (kind, outcome) else {
+        return Err(Refusal::new(3, index));
+    };
+    let second_spf = kind == Kind::Spf && before.contains(&Kind::Spf);
+    if index >= MOST_IDENTIFIERS || second_spf {
+        return Err(Refusal::new(4, index));
+    }
+    Ok((kind, outcome))
+}
+
 #[derive(Clone, Debug, PartialEq, Eq)]
 pub struct Identifier {
     pub kind: Kind,
@@ -79,16 +95,8 @@ impl Message {
     /// 3, 4, 2".
     pub fn add(&mut self, kind: u8, outcome: u8, domain: &[u8]) -> Result<(), Refusal> {
         let index = self.identifiers.len();
-        let (kind, outcome) = (listed(&KINDS, kind), listed(&OUTCOMES, outcome));
-        let (Some(kind), Some(outcome)) = (kind, outcome) else {
-            return Err(Refusal::new(3, index));
-        };
-        // "a 17th identifier, or a second SPF", whatever its outcome
-        let spf = |other: &Identifier| other.kind == Kind::Spf;
-        let second_spf = kind == Kind::Spf && self.identifiers.iter().any(spf);
-        if index >= MOST_IDENTIFIERS || second_spf {
-            return Err(Refusal::new(4, index));
-        }
+        let before = self.identifiers.iter().map(|other| other.kind);
+        let (kind, outcome) = admitted(&before.collect::<Vec<Kind>>(), kind, outcome)?;
         let domain = Domain::read(domain).map_err(|_| Refusal::new(2, index))?;
         self.identifiers.push(Identifier {
             kind,

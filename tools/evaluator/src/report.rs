@@ -1,4 +1,4 @@
-//! The report file name and the Identity-Alignment field.
+//! The report file name, the subject of its mail and the Identity-Alignment field.
 
 use crate::domain::Domain;
 use crate::message::{Kind, Message};
@@ -30,15 +30,19 @@ pub struct FileName<'a> {
 
 /// "For a file name: 11, 10."
 pub fn file_name(parts: &FileName, out: &mut [u8]) -> Result<usize, Refusal> {
-    let domain = |text: &[u8]| Domain::read(text).map_err(|_| Refusal::new(11, 0));
-    let (receiver, policy) = (domain(parts.receiver)?, domain(parts.policy_domain)?);
+    let (receiver, policy) = (written(parts.receiver)?, written(parts.policy_domain)?);
     if parts.id.is_some_and(bad_id) || parts.begin > parts.end {
         return Err(Refusal::new(11, 0));
     }
     lend(&file_name_text(&receiver, &policy, parts), out)
 }
 
-fn bad_id(id: &[u8]) -> bool {
+/// A domain that is written in lower case, or 11.
+pub fn written(domain: &[u8]) -> Result<Domain, Refusal> {
+    Domain::read(domain).map_err(|_| Refusal::new(11, 0))
+}
+
+pub fn bad_id(id: &[u8]) -> bool {
     id.is_empty() || id.len() > MOST_ID_OCTETS || !id.iter().all(u8::is_ascii_alphanumeric)
 }
 
@@ -53,6 +57,32 @@ fn file_name_text(receiver: &Domain, policy: &Domain, parts: &FileName) -> Vec<u
     }
     text.extend(b".xml");
     text
+}
+
+/// What the subject of a mail with a report is made of.
+#[derive(Clone, Copy, Debug)]
+pub struct Subject<'a> {
+    pub receiver: &'a [u8],
+    pub policy_domain: &'a [u8],
+    pub id: &'a [u8],
+}
+
+/// Ask 9 of document 02: "the mail subject of section 3.5.2, single spaced, the file
+/// name's report id in angle brackets; refusals 11, 10".
+pub fn subject(parts: &Subject, out: &mut [u8]) -> Result<usize, Refusal> {
+    let (receiver, policy) = (written(parts.receiver)?, written(parts.policy_domain)?);
+    if bad_id(parts.id) {
+        return Err(Refusal::new(11, 0));
+    }
+    let words: [&[u8]; 6] = [
+        b"Report Domain:",
+        policy.octets(),
+        b"Submitter:",
+        receiver.octets(),
+        b"Report-ID:",
+        &[b"<", parts.id, b">"].concat(),
+    ];
+    lend(&words.join(&b' '), out)
 }
 
 /// The field of a message at its verdict: 9 "when the result is neither pass

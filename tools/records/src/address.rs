@@ -4,14 +4,14 @@
 pub mod code;
 
 use crate::field::marked::shown;
+use crate::told::REFUSED;
 use crate::words::{differing, two};
 use evaluator::address::book::AddressBook;
 use evaluator::address::{Outcome, Verdict};
 use sheets::address::{advice, json, lines, notes, run, AddressHanded, Calls, Came, Ran};
 use sheets::explain::HEAD;
 
-/// The exit status of a refusal, and that of the first outcome by its number.
-const REFUSED: u8 = 3;
+/// The exit status of the first outcome by its number.
 const OUTCOMES: u8 = 20;
 
 /// In which form a check is told.

@@ -108,7 +108,8 @@ fn listed(read: &RecordRead) -> String {
     }
 }
 
-fn numbers_words(numbers: RecordNumbers) -> String {
+/// Settings in words.
+pub fn numbers_words(numbers: RecordNumbers) -> String {
     let RecordNumbers {
         p,
         sp,

@@ -28,7 +28,11 @@ mod words;
 
 pub use answers::AnswerLine;
 pub use collected::read_answers;
+pub(crate) use describe::domain_word;
 pub use describe::{describe, quoted};
 pub use described::{Described, Mistake};
+pub(crate) use lines::each_line;
 pub use make::{make, read};
+pub(crate) use tokens::{domain_octets, Token};
+pub(crate) use words::{number_of, outcome_of};
 pub use words::{word, KINDS, OUTCOMES};

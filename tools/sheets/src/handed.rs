@@ -111,10 +111,15 @@ pub fn check_text(octets: &[u8], of: &str) -> Result<(), String> {
     if octets.len() > MOST_DESCRIPTION_OCTETS {
         return Err(format!("it is over 1,048,576 octets, which no {of} needs"));
     }
-    if octets.starts_with(b"\xff\xfe") || octets.starts_with(b"\xfe\xff") {
-        return Err("it is written in UTF-16; save it as UTF-8 or ASCII".to_string());
+    check_encoding(octets)
+}
+
+/// That octets are not in UTF-16.
+pub fn check_encoding(octets: &[u8]) -> Result<(), String> {
+    match octets.starts_with(b"\xff\xfe") || octets.starts_with(b"\xfe\xff") {
+        true => Err("it is written in UTF-16; save it as UTF-8 or ASCII".to_string()),
+        false => Ok(()),
     }
-    Ok(())
 }
 
 /// Whether octets have one that no text has.

@@ -1,12 +1,13 @@
 //! Sheets in every other form than their octets: described, explained, worked
 //! through by hand, generated from a seed; what is said at the desk of a message
-//! that was handed over, and of an address check; and the cases of the comparison
-//! and of the program `messages`.
+//! that was handed over, of an address check and of a day's rows; and the cases of
+//! the comparison and of the program `messages`.
 
 #![forbid(unsafe_code)]
 
 pub mod address;
 pub mod command;
+pub mod day;
 pub mod description;
 mod domain_words;
 pub mod examples;

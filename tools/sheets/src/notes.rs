@@ -12,8 +12,8 @@ use evaluator::domain::{without_dot, PREFIX};
 use evaluator::refusal::Refusal;
 use evaluator::sheet::{self, Sheet};
 
-/// The most answers of which it is said that no walk asked them.
-const MOST_NEVER_ASKED: usize = 20;
+/// The most notes of one kind, as of answers that no walk asked.
+const MOST_OF_A_KIND: usize = 20;
 
 /// The notes, a line each.
 pub fn notes(handed: &Handed, printed: &Printed) -> Vec<String> {
@@ -82,13 +82,18 @@ fn never_asked(given: &[GivenName], asked: &[Vec<u8>]) -> Vec<String> {
     let never = given
         .iter()
         .filter(|own| !asked.contains(own.name.as_slice()));
-    let never: Vec<String> = never.map(|own| never_asked_note(own, &asked)).collect();
-    let more = never.len().saturating_sub(MOST_NEVER_ASKED);
-    let mut shown: Vec<String> = never.into_iter().take(MOST_NEVER_ASKED).collect();
+    let never = never.map(|own| never_asked_note(own, &asked)).collect();
+    shortened(never, "never asked")
+}
+
+/// Notes of one kind, and of how many more nothing is said.
+pub(crate) fn shortened(mut notes: Vec<String>, kind: &str) -> Vec<String> {
+    let more = notes.len().saturating_sub(MOST_OF_A_KIND);
+    notes.truncate(MOST_OF_A_KIND);
     if more > 0 {
-        shown.push(format!("never asked: {more} more"));
+        notes.push(format!("{kind}: {more} more"));
     }
-    shown
+    notes
 }
 
 fn never_asked_note(own: &GivenName, asked: &HashSet<&[u8]>) -> String {

@@ -118,7 +118,8 @@ fn unlisted_in_identifier(message: &GivenMessage, index: usize) -> String {
     }
 }
 
-fn one_too_many(index: usize) -> String {
+/// Why the identifier at an index is refused 4.
+pub(crate) fn one_too_many(index: usize) -> String {
     match index < MOST_IDENTIFIERS {
         true => "a second SPF identifier, and a message has one at the most".to_string(),
         false => {

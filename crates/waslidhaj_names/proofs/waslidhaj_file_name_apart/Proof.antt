@@ -17,7 +17,7 @@ same-length c = search needs
 returns : tie.Need-returns
 returns c =
     let p = c .before .before .before .write-file-name .ensures in
-    (c .number-written .ensures ∙ ap written-numbers (p .answers), p .leaves)
+    record { answers = c .number-written .ensures ∙ ap written-numbers (p .answers); leaves = p .leaves }
 
 pub waslidhaj-file-name-apart-spec : {M : Type 1} → statement M
 waslidhaj-file-name-apart-spec =

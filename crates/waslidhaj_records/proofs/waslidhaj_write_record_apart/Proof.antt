@@ -22,7 +22,7 @@ returns c =
     let write = c .before .before .before in
     let settings = write .before .before in
     let p = rw (settings .settings-in .ensures) at (write .write-record .ensures) in
-    (c .number-written .ensures ∙ ap written-numbers (p .answers), p .leaves)
+    record { answers = c .number-written .ensures ∙ ap written-numbers (p .answers); leaves = p .leaves }
 
 pub waslidhaj-write-record-apart-spec : {M : Type 1} → statement M
 waslidhaj-write-record-apart-spec =

@@ -1,9 +1,10 @@
 //! One history by both.
 
-use super::code::{given_row, make, read_domain, read_row, Code};
-use super::history::{shown, Act, Call, History};
+use super::code::{given_row, make, read_row, Code};
+use super::history::{read_list, shown, Act, Call, History};
 use super::sums::Sums;
 use super::tally::Tally;
+use evaluator::lists::Lists;
 use evaluator::refusal::Refusal;
 use evaluator::rows::{self, Row};
 use records::code::accepted;
@@ -11,39 +12,49 @@ use waslidhaj::raw::{self, List, ListChanged};
 
 type Answer = Result<(), Refusal>;
 
+/// What a history leaves: the list and the rows, as the code has them and as the second
+/// evaluator does.
+pub struct Left {
+    pub list: List,
+    pub rows: Vec<raw::Row>,
+    pub expected_list: rows::DayList,
+    pub expected_rows: Vec<Row>,
+}
+
 /// Checks the code on one history; the error has the history up to the fault.
-pub fn check(code: &impl Code, history: &History, tally: &mut Tally) -> Result<(), String> {
+pub fn check(code: &impl Code, history: &History, tally: &mut Tally) -> Result<Left, String> {
     let fault = |acts: usize| {
         move |what: String| format!("{what}\n-- the history\n{}", history.lines(acts))
     };
     let mut run = Run::new(code, history);
-    run.same_domain().map_err(fault(0))?;
+    run.begins_with_zeros().map_err(fault(0))?;
     for (before, act) in history.acts.iter().enumerate() {
         run.step(act, tally).map_err(fault(before + 1))?;
     }
     tally.histories += 1;
-    Ok(())
+    Ok(run.left)
 }
 
 /// The code and the second evaluator at the same place of a history.
 struct Run<'c, C> {
     code: &'c C,
-    list: List,
-    rows: Vec<raw::Row>,
-    expected_list: rows::DayList,
-    expected_rows: Vec<Row>,
+    history: &'c History,
+    left: Left,
     /// Nothing where others write the rows.
     sums: Option<Sums>,
 }
 
 impl<'c, C: Code> Run<'c, C> {
-    fn new(code: &'c C, history: &History) -> Run<'c, C> {
+    fn new(code: &'c C, history: &'c History) -> Run<'c, C> {
         Run {
             code,
-            list: code.new_list(),
-            rows: history.rows.iter().map(given_row).collect(),
-            expected_list: rows::DayList::default(),
-            expected_rows: history.rows.clone(),
+            history,
+            left: Left {
+                list: code.new_list(),
+                rows: history.rows.iter().map(given_row).collect(),
+                expected_list: rows::DayList::default(),
+                expected_rows: history.rows.clone(),
+            },
             sums: (!history.others_write()).then(Sums::default),
         }
     }
@@ -55,27 +66,33 @@ impl<'c, C: Code> Run<'c, C> {
                 self.write(*at, row);
                 Ok(())
             }
+            Act::Forge(list) => {
+                self.left.list = **list;
+                self.left.expected_list = read_list(list);
+                Ok(())
+            }
         }
     }
 
     fn write(&mut self, at: usize, row: &Row) {
-        if let Some(lent) = self.rows.get_mut(at) {
+        if let Some(lent) = self.left.rows.get_mut(at) {
             *lent = given_row(row);
         }
-        if let Some(lent) = self.expected_rows.get_mut(at) {
+        if let Some(lent) = self.left.expected_rows.get_mut(at) {
             *lent = *row;
         }
     }
 
     fn call(&mut self, call: &Call, tally: &mut Tally) -> Result<(), String> {
-        let changed = make(self.code, call, self.list, &mut self.rows);
+        let (list, rows) = (self.left.list, &mut self.left.rows);
+        let changed = make(self.code, (self.history, call), list, rows)?;
         let answer = accepted(changed.refusal);
         let expected = self.expected(call);
         same_answer(answer, expected)?;
         self.same_list(call, &changed)?;
-        self.list = changed.list;
+        self.left.list = changed.list;
         self.same_domain()?;
-        let given: Vec<Row> = self.rows.iter().map(read_row).collect();
+        let given: Vec<Row> = self.left.rows.iter().map(read_row).collect();
         self.same_rows(&given)?;
         self.check_sums(call, answer, &given)?;
         tally.add(call, answer);
@@ -83,39 +100,57 @@ impl<'c, C: Code> Run<'c, C> {
     }
 
     fn expected(&mut self, call: &Call) -> Answer {
-        let rows = &mut self.expected_rows;
+        let rows = &mut self.left.expected_rows;
         match call {
-            Call::Clear(domain) => self.expected_list.clear(domain, rows),
-            Call::Enter(entry) => self.expected_list.enter(entry, rows),
+            Call::Clear(domain) => self.left.expected_list.clear(domain, rows),
+            Call::Enter { entry, beside } => {
+                let beside = self.history.beside.get(*beside);
+                let lists = beside.map_or(Lists::default(), |own| own.given());
+                self.left.expected_list.enter(entry, lists, rows)
+            }
         }
     }
 
-    /// A refused call, and one that enters, leaves the list as it is, to the
-    /// octet.
+    /// A refused call, and one that enters, leaves the list as it is, to the octet; one
+    /// that clears gives a flag of 1 and a length within the domain.
     fn same_list(&self, call: &Call, changed: &ListChanged) -> Result<(), String> {
+        let (list, before) = (&changed.list, &self.left.list);
         let clears = matches!(call, Call::Clear(_)) && changed.refusal.number == 0;
-        match clears || changed.list == self.list {
-            true => Ok(()),
-            false => Err("the list was changed".to_string()),
+        let whole = list.cleared == 1 && usize::from(list.length) <= list.domain.len();
+        match (clears, whole, list == before) {
+            (true, true, _) | (false, _, true) => Ok(()),
+            (true, false, _) => Err(format!(
+                "a list cleared={} of {} octets",
+                list.cleared, list.length
+            )),
+            (false, _, false) => Err("the list was changed".to_string()),
+        }
+    }
+
+    /// A list that was never cleared has all octets 0.
+    fn begins_with_zeros(&self) -> Result<(), String> {
+        let list = &self.left.list;
+        let octets = list.domain.iter().any(|octet| *octet != 0);
+        match octets || list.cleared != 0 || list.length != 0 {
+            true => Err(format!("a new list is not of zeros: {list:?}")),
+            false => Ok(()),
         }
     }
 
     fn same_domain(&self) -> Result<(), String> {
-        let past = |length| format!("a domain of {length} octets");
-        let (given, expected) = (read_domain(&self.list), self.expected_list.domain());
-        let given = given.map_err(past)?;
-        match given == expected {
+        let (given, expected) = (read_list(&self.left.list), &self.left.expected_list);
+        match given == *expected {
             true => Ok(()),
             false => Err(format!(
                 "the lists differ\n-- the proved code\n{}\n-- the reference\n{}",
-                named(given),
-                named(expected)
+                named(given.domain()),
+                named(expected.domain())
             )),
         }
     }
 
     fn same_rows(&self, given: &[Row]) -> Result<(), String> {
-        let mut pairs = given.iter().zip(&self.expected_rows);
+        let mut pairs = given.iter().zip(&self.left.expected_rows);
         let Some(at) = pairs.position(|(given, expected)| given != expected) else {
             return Ok(());
         };
@@ -123,7 +158,7 @@ impl<'c, C: Code> Run<'c, C> {
         Err(format!(
             "row {at} differs\n-- the proved code\n{}\n-- the reference\n{}",
             row(given),
-            row(&self.expected_rows)
+            row(&self.left.expected_rows)
         ))
     }
 

@@ -1,25 +1,33 @@
 //! The code that is held to the second evaluator, and its values in the second
 //! evaluator's.
 
-use super::history::Call;
-use evaluator::rows;
-use waslidhaj::calls;
-use waslidhaj::raw::{self, List, ListChanged};
+mod safe;
 
-/// A list of rows by its three functions.
+use super::history::{Call, History};
+use evaluator::rows;
+use waslidhaj::raw::{self, List, ListChanged};
+use waslidhaj::{calls, Lists};
+
+/// A list of rows by its three functions; the error is of what no call may give.
 pub trait Code {
     fn new_list(&self) -> List;
-    fn clear(&self, list: List, domain: &[u8], rows: &mut [raw::Row]) -> ListChanged;
-    fn enter(
-        &self,
-        list: List,
-        entry: raw::Entry,
-        domain: &[u8],
-        rows: &mut [raw::Row],
-    ) -> ListChanged;
+    fn clear(&self, list: List, domain: &[u8], rows: &mut [raw::Row]) -> Changed;
+    fn enter(&self, list: List, entered: Entered<'_>, rows: &mut [raw::Row]) -> Changed;
 }
 
-/// The proved code.
+pub type Changed = Result<ListChanged, String>;
+
+/// A verdict that is entered, the domain of its applied record, and the lists beside
+/// the rows.
+#[derive(Clone, Copy)]
+pub struct Entered<'a> {
+    pub entry: raw::Entry,
+    pub domain: &'a [u8],
+    pub lists: Lists<'a>,
+}
+
+/// The proved code: each call by the C interface, and again by the safe one where that
+/// has the values.
 pub struct Proved;
 
 impl Code for Proved {
@@ -27,26 +35,46 @@ impl Code for Proved {
         calls::new_list()
     }
 
-    fn clear(&self, list: List, domain: &[u8], rows: &mut [raw::Row]) -> ListChanged {
-        calls::clear(list, domain, rows)
+    fn clear(&self, list: List, domain: &[u8], rows: &mut [raw::Row]) -> Changed {
+        let mut own = rows.to_vec();
+        let changed = calls::clear(list, domain, rows);
+        let safe = safe::clear(list, domain, &mut own);
+        safe::in_both(changed, safe, own == rows)
     }
 
-    fn enter(
-        &self,
-        list: List,
-        entry: raw::Entry,
-        domain: &[u8],
-        rows: &mut [raw::Row],
-    ) -> ListChanged {
-        calls::enter(list, entry, domain, rows)
+    fn enter(&self, list: List, entered: Entered<'_>, rows: &mut [raw::Row]) -> Changed {
+        let Entered {
+            entry,
+            domain,
+            lists,
+        } = entered;
+        let mut own = rows.to_vec();
+        let changed = calls::enter(list, entry, domain, lists, rows);
+        match safe::enter(list, &entered, &mut own) {
+            Some(safe) => safe::in_both(changed, safe, own == rows),
+            None => Ok(changed),
+        }
     }
 }
 
-/// Makes a call.
-pub fn make(code: &impl Code, call: &Call, list: List, rows: &mut [raw::Row]) -> ListChanged {
+/// Makes a call of a history.
+pub fn make(
+    code: &impl Code,
+    (history, call): (&History, &Call),
+    list: List,
+    rows: &mut [raw::Row],
+) -> Changed {
     match call {
         Call::Clear(domain) => code.clear(list, domain, rows),
-        Call::Enter(entry) => code.enter(list, given_entry(entry), &entry.finding.domain, rows),
+        Call::Enter { entry, beside } => {
+            let beside = history.beside.get(*beside);
+            let entered = Entered {
+                entry: given_entry(entry),
+                domain: &entry.finding.domain,
+                lists: beside.map_or(Lists::default(), |own| own.lent()),
+            };
+            code.enter(list, entered, rows)
+        }
     }
 }
 
@@ -60,6 +88,8 @@ fn given_entry(entry: &rows::Entry) -> raw::Entry {
             dkim: finding.dkim,
             spf: finding.spf,
         },
+        author: entry.author,
+        set: entry.set,
     }
 }
 
@@ -71,6 +101,9 @@ pub fn given_row(row: &rows::Row) -> raw::Row {
             disposition: seen.disposition,
             dkim: seen.dkim,
             spf: seen.spf,
+            spare: seen.spare,
+            author: seen.author,
+            set: seen.set,
         },
         count: row.count,
     }
@@ -84,16 +117,10 @@ pub fn read_row(row: &raw::Row) -> rows::Row {
             disposition: seen.disposition,
             dkim: seen.dkim,
             spf: seen.spf,
+            spare: seen.spare,
+            author: seen.author,
+            set: seen.set,
         },
         count: row.count,
-    }
-}
-
-/// The list's domain, if it was ever cleared; the error is a length past the
-/// domain's octets.
-pub fn read_domain(list: &List) -> Result<Option<&[u8]>, usize> {
-    match list.cleared {
-        false => Ok(None),
-        true => list.domain.get(..list.length).map(Some).ok_or(list.length),
     }
 }

@@ -1,8 +1,9 @@
 //! Histories from a seed: few kinds of verdicts, so that rows match often, or so
 //! many that a list fills up.
 
-use super::domains;
-use super::history::History;
+use super::history::{forged, History};
+use crate::beside::{any_octets, good, spoilt};
+use crate::domains;
 use evaluator::rows::{Entry, Finding, Row, Seen};
 use sheets::random::Random;
 
@@ -15,6 +16,11 @@ const ENDS: [usize; 6] = [0, 1, 254, 255, 256, 257];
 const RESULTS: [u8; 2] = [1, 2];
 const OTHER_RESULTS: [u8; 6] = [0, 3, 4, 5, 128, 255];
 const OTHER_DISPOSITIONS: [u8; 5] = [3, 4, 7, 128, 255];
+/// Author domains and sets of the first lists of a history, which are good ones.
+const AUTHORS: usize = 3;
+const SETS: usize = 3;
+/// Lengths of lists that no call gave.
+const FORGED: [u16; 8] = [0, 1, 11, 252, 253, 254, 256, u16::MAX];
 
 /// The history of a seed and index.
 pub fn history(seed: u64, index: u64) -> History {
@@ -30,6 +36,7 @@ pub fn history(seed: u64, index: u64) -> History {
         random,
         history: History::default(),
     };
+    maker.add_lists();
     maker.start(lent);
     maker.go_on(lent);
     maker.history
@@ -68,10 +75,21 @@ fn kinds(random: &mut Random, lent: usize) -> Vec<Seen> {
     let mut kind = |number: usize| Seen {
         source: source(number % sources.max(1)),
         disposition: random.below(3) as u8,
-        dkim: random.percent(50),
-        spf: random.percent(50),
+        dkim: flag(random),
+        spf: flag(random),
+        spare: 0,
+        author: random.below(AUTHORS) as u32,
+        set: random.below(SETS) as u32,
     };
     (0..number).map(&mut kind).collect()
+}
+
+/// A flag: mostly 0 or 1.
+fn flag(random: &mut Random) -> u8 {
+    match random.percent(85) {
+        true => random.below(2) as u8,
+        false => random.octet(),
+    }
 }
 
 struct Maker {
@@ -87,6 +105,17 @@ struct Maker {
 }
 
 impl Maker {
+    /// Good lists, and others of every quality.
+    fn add_lists(&mut self) {
+        let random = &mut self.random;
+        let first = good(random, AUTHORS, SETS);
+        self.history.beside.push(first.clone());
+        for _ in 0..random.between(0, 2) {
+            let other = spoilt(random, first.clone());
+            self.history.beside.push(other);
+        }
+    }
+
     /// The lent rows, mostly a first clearing, and now and then all kinds.
     fn start(&mut self, lent: usize) {
         let empty = self.random.percent(15);
@@ -116,7 +145,8 @@ impl Maker {
                     self.clear_well();
                 }
                 7..=8 => self.fill(lent),
-                9..=30 if self.writes => self.write(),
+                9..=10 => self.forge(),
+                11..=30 if self.writes => self.write(),
                 _ => self.enter(),
             }
         }
@@ -134,7 +164,7 @@ impl Maker {
     }
 
     fn clear_badly(&mut self) {
-        let domain = one(&mut self.random, &self.bad);
+        let domain = domains::one(&mut self.random, &self.bad);
         self.history.clear(&domain);
     }
 
@@ -162,16 +192,51 @@ impl Maker {
             true => seen.disposition,
             false => self.random.pick(&OTHER_DISPOSITIONS),
         };
-        self.history.enter(Entry {
+        let finding = Finding {
+            result,
+            disposition,
+            dkim: seen.dkim,
+            spf: seen.spf,
+            domain,
+        };
+        let beside = self.beside();
+        let (author, set) = match beside > 0 && self.random.percent(60) {
+            true => (seen.author, SETS as u32),
+            false => (
+                self.number(seen.author, AUTHORS),
+                self.number(seen.set, SETS),
+            ),
+        };
+        let entry = Entry {
             source: seen.source,
-            finding: Finding {
-                result,
-                disposition,
-                dkim: seen.dkim,
-                spf: seen.spf,
-                domain,
-            },
-        });
+            finding,
+            author,
+            set,
+        };
+        self.history.enter_beside(entry, beside);
+    }
+
+    /// Mostly the good lists; now and then others, or past all of the history's, which
+    /// are empty ones.
+    fn beside(&mut self) -> usize {
+        match self.random.percent(88) {
+            true => 0,
+            false => self.random.between(0, self.history.beside.len()),
+        }
+    }
+
+    /// A place, now and then one that is near it or past a list of so many.
+    fn number(&mut self, number: u32, most: usize) -> u32 {
+        match self.random.percent(96) {
+            true => number,
+            false => self.other_number(number, most),
+        }
+    }
+
+    fn other_number(&mut self, number: u32, most: usize) -> u32 {
+        let most = most as u32;
+        let high = self.random.pick(&[1 << 8, 1 << 16, 1 << 31]);
+        self.random.pick(&[most, most + 1, MOST, number | high])
     }
 
     /// The domain that the list now serves, in any spelling.
@@ -183,8 +248,8 @@ impl Maker {
 
     fn domain(&mut self) -> Vec<u8> {
         match self.random.below(100) {
-            0..=2 => one(&mut self.random, &self.good),
-            3 => one(&mut self.random, &self.bad),
+            0..=2 => domains::one(&mut self.random, &self.good),
+            3 => domains::one(&mut self.random, &self.bad),
             4..=7 => {
                 let own = self.own_domain();
                 domains::near(&mut self.random, &own)
@@ -197,11 +262,13 @@ impl Maker {
     fn seen(&mut self) -> Seen {
         let mut seen = self.random.pick(&self.kinds);
         if self.random.percent(10) {
-            match self.random.below(4) {
+            match self.random.below(6) {
                 0 => seen.source = source(self.random.below(600)),
                 1 => seen.disposition = self.random.below(3) as u8,
-                2 => seen.dkim = !seen.dkim,
-                _ => seen.spf = !seen.spf,
+                2 => seen.dkim = flag(&mut self.random),
+                3 => seen.spf = flag(&mut self.random),
+                4 => seen.author = self.random.below(AUTHORS) as u32,
+                _ => seen.set = self.random.below(SETS) as u32,
             }
         }
         seen
@@ -213,11 +280,45 @@ impl Maker {
         if self.random.percent(10) {
             seen.disposition = self.random.pick(&OTHER_DISPOSITIONS);
         }
+        if self.random.percent(50) {
+            seen.spare = self.random.octet();
+        }
+        if self.random.percent(8) {
+            seen.author = self.other_number(seen.author, AUTHORS);
+        }
+        if self.random.percent(8) {
+            seen.set = self.other_number(seen.set, SETS);
+        }
         let count = match self.random.percent(15) {
             true => self.random.number() as u32,
             false => self.random.pick(&COUNTS),
         };
         Row { seen, count }
+    }
+
+    /// Somebody else writes the list: a domain near one that it has had, or any octets.
+    fn forge(&mut self) {
+        let random = &mut self.random;
+        let domain = match random.below(4) {
+            0 => any_octets(random, 253),
+            1 => domains::one(random, &self.bad),
+            _ => {
+                let own = self.named.clone().unwrap_or_default();
+                domains::any_spelling(random, &own)
+            }
+        };
+        let length = match random.percent(70) {
+            true => domain.len() as u16,
+            false => random.pick(&FORGED),
+        };
+        let cleared = match random.percent(70) {
+            true => 1,
+            false => random.octet().wrapping_mul(random.below(2) as u8),
+        };
+        let list = forged(cleared, &domain, length);
+        let own = list.domain.get(..usize::from(length));
+        self.named = Some(own.unwrap_or(&list.domain).to_vec());
+        self.history.forge(list);
     }
 
     /// Somebody else writes a row: one of the first, or one at the list's ends.
@@ -232,9 +333,4 @@ impl Maker {
             self.history.write(at, row);
         }
     }
-}
-
-fn one(random: &mut Random, domains: &[Vec<u8>]) -> Vec<u8> {
-    let at = random.below(domains.len());
-    domains.get(at).cloned().unwrap_or_default()
 }

@@ -1,7 +1,12 @@
 //! Histories written by hand, one for each odd thing.
 
-use super::domains::{bad, good, longest};
+mod forged;
+pub mod lists;
+mod octets;
+
 use super::history::History;
+use crate::beside::{Beside, Member};
+use crate::domains::{bad, good, longest};
 use evaluator::rows::{Entry, Finding, Row, Seen};
 
 const DOMAIN: &[u8] = b"example.com";
@@ -35,11 +40,25 @@ fn of(seen: Seen, domain: &[u8]) -> Entry {
             spf: seen.spf,
             domain: domain.to_vec(),
         },
+        author: seen.author,
+        set: seen.set,
     }
 }
 
 fn entry(number: u32) -> Entry {
     of(seen(number), DOMAIN)
+}
+
+/// Three author domains, and three sets: none, and one of an identifier of each kind.
+fn beside() -> Beside {
+    let mut beside = Beside::default();
+    for domain in ["example.com", "news.example.com", "example.com"] {
+        beside.author(domain.as_bytes());
+    }
+    beside.set(&[]);
+    beside.set(&[Member::spf(b"example.net")]);
+    beside.set(&[Member::dkim(b"s1", b"example.net")]);
+    beside
 }
 
 /// Rows of the numbers from 0, with these counts.
@@ -49,6 +68,7 @@ fn rows(counts: &[u32]) -> History {
         rows: numbered
             .map(|(number, count)| row(number, *count))
             .collect(),
+        beside: vec![beside()],
         ..History::default()
     }
 }
@@ -84,6 +104,9 @@ pub fn histories() -> Vec<Named> {
     ];
     histories.extend(full_lists());
     histories.extend(written_rows());
+    histories.extend(octets::histories());
+    histories.extend(lists::histories());
+    histories.extend(forged::histories());
     histories
 }
 
@@ -196,8 +219,8 @@ fn refused_clearings() -> History {
     history
 }
 
-/// Verdicts that differ in one bit of the source, in the disposition or in one
-/// flag: each has its own row.
+/// Verdicts that differ in one bit of the source, in the disposition, in one flag or
+/// in one number: each has its own row.
 fn neighbours() -> History {
     let mut kinds = vec![Seen::default()];
     for bit in 0..128 {
@@ -210,8 +233,15 @@ fn neighbours() -> History {
     for number in 1..12 {
         kinds.push(Seen {
             disposition: number % 3,
-            dkim: number & 4 != 0,
-            spf: number >= 6,
+            dkim: number >> 2 & 1,
+            spf: u8::from(number >= 6),
+            ..Seen::default()
+        });
+    }
+    for number in 1..9 {
+        kinds.push(Seen {
+            author: number % 3,
+            set: number / 3,
             ..Seen::default()
         });
     }

@@ -23,14 +23,14 @@ impl Sums {
     pub fn note(&mut self, call: &Call) {
         match (call, &mut self.accepted) {
             (Call::Clear(_), accepted) => *accepted = Some(Accepted::default()),
-            (Call::Enter(entry), Some(accepted)) => {
+            (Call::Enter { entry, .. }, Some(accepted)) => {
                 accepted.all += 1;
                 let disposition = usize::from(entry.finding.disposition);
                 if let Some(number) = accepted.each.get_mut(disposition) {
                     *number += 1;
                 }
             }
-            (Call::Enter(_), None) => {}
+            (Call::Enter { .. }, None) => {}
         }
     }
 

@@ -7,7 +7,7 @@ use crate::refused::Refused;
 use evaluator::refusal::Refusal;
 
 /// Every refusal of a list's calls.
-const REFUSALS: [u8; 5] = [11, 12, 13, 14, 27];
+const REFUSALS: [u8; 6] = [11, 12, 13, 14, 27, 28];
 
 #[derive(Clone, Debug, Default)]
 pub struct Tally {
@@ -22,7 +22,7 @@ impl Tally {
     pub fn add(&mut self, call: &Call, answer: Result<(), Refusal>) {
         match (call, answer) {
             (Call::Clear(_), Ok(())) => self.cleared += 1,
-            (Call::Enter(_), Ok(())) => self.entered += 1,
+            (Call::Enter { .. }, Ok(())) => self.entered += 1,
             (_, Err(refusal)) => self.refused.add(refusal.number),
         }
     }

@@ -1,13 +1,15 @@
 //! The check sees every rule that is broken, and the histories come to it.
 
-mod twin;
+pub mod twin;
 
 use super::agreement::check;
 use super::generate::history;
-use super::history::{Act, Call, History};
+use super::history::{forged, Act, Call, History};
 use super::sums::Sums;
 use super::tally::Tally;
 use super::{compare, odd};
+use crate::beside::Beside;
+use crate::wrongs::lost;
 use evaluator::rows::{Entry, Finding, Row, Seen};
 use twin::{Twin, Wrong, ALL};
 
@@ -16,41 +18,39 @@ const SEED: u64 = 5;
 #[test]
 fn rows_that_keep_the_rules() {
     let line = compare(&Twin(Wrong::Nothing), 1_000, SEED).expect("agreement");
-    assert!(line.starts_with("agree on 1020 histories, "), "{line}");
-    for number in [11, 12, 13, 14, 27] {
+    assert!(line.starts_with("agree on 1032 histories, "), "{line}");
+    for number in [11, 12, 13, 14, 27, 28] {
         assert!(line.contains(&format!(" refused {number}")), "{line}");
         assert!(!line.contains(&format!(" 0 refused {number}")), "{line}");
     }
 }
 
-/// The first generated history on which a code is found out.
-fn found(wrong: Wrong) -> Option<(u64, String)> {
+/// The first of some histories on which a code is found out, and its report.
+fn found<N>(wrong: Wrong, histories: &[(N, History)]) -> Option<(&N, String)> {
     let mut tally = Tally::default();
-    let checked = |index| check(&Twin(wrong), &history(SEED, index), &mut tally);
-    let mut faults = (0..2_000).map(checked).enumerate();
-    faults.find_map(|(index, checked)| Some((index as u64, checked.err()?)))
+    let mut checked = histories.iter();
+    checked
+        .find_map(|(name, history)| Some((name, check(&Twin(wrong), history, &mut tally).err()?)))
 }
 
 #[test]
 fn every_broken_rule_is_found_by_the_generated_histories() {
-    for wrong in ALL.iter().copied() {
-        let (index, report) = found(wrong).unwrap_or_else(|| panic!("{wrong:?} is not found"));
-        println!("{wrong:?}: history {index}");
+    let histories: Vec<_> = (0..2_000)
+        .map(|index| (index, history(SEED, index)))
+        .collect();
+    let lost = lost(ALL, |wrong| {
+        let (index, report) = found(wrong, &histories)?;
         assert!(report.contains("\n-- the history\n"), "{report}");
-    }
+        Some(index.to_string())
+    });
+    assert_eq!(lost, []);
 }
 
 #[test]
 fn every_broken_rule_is_found_by_the_histories_written_by_hand() {
-    for wrong in ALL.iter().copied() {
-        let mut tally = Tally::default();
-        let mut checked = odd::histories().into_iter();
-        let mut fault = |history: &History| check(&Twin(wrong), history, &mut tally).is_err();
-        let (name, _) = checked
-            .find(|(_, history)| fault(history))
-            .unwrap_or_else(|| panic!("{wrong:?} is not found"));
-        println!("{wrong:?}: {name}");
-    }
+    let histories = odd::histories();
+    let lost = lost(ALL, |wrong| Some(found(wrong, &histories)?.0.to_string()));
+    assert_eq!(lost, []);
 }
 
 /// A fail of example.com.
@@ -63,35 +63,53 @@ fn entry() -> Entry {
             domain: b"example.com".to_vec(),
             ..Finding::default()
         },
+        author: 0,
+        set: 1,
     }
+}
+
+/// A call that enters it.
+fn enter() -> Call {
+    let entry = entry();
+    Call::Enter { entry, beside: 0 }
 }
 
 #[test]
 fn a_fault_is_reported_with_its_history() {
+    let mut beside = Beside::default();
+    beside.author(b"a");
+    beside.set(&[]);
+    beside.set(&[]);
     let mut history = History {
         rows: vec![Row::default(); 3],
+        beside: vec![beside],
         ..History::default()
     };
+    history.forge(forged(0, &[b'x'; 253], 9));
     history.clear(b"Example.com");
     history.enter(entry());
     history.enter(entry());
     let report = check(&Twin(Wrong::RaisedByTwo), &history, &mut Tally::default());
     let source = "01".repeat(16);
+    let numbers = format!("disposition=1 dkim=0 spf=0 author=0 set=1 source={source}");
     let expected = format!(
         "row 0 differs
 -- the proved code
-count=2 disposition=1 dkim=0 spf=0 source={source}
+count=2 {numbers} spare=0
 -- the reference
-count=1 disposition=1 dkim=0 spf=0 source={source}
+count=1 {numbers} spare=0
 -- the history
 3 rows lent
-  rows 0 to 2: count=0 disposition=0 dkim=0 spf=0 source={}
+  rows 0 to 2: count=0 disposition=0 dkim=0 spf=0 author=0 set=0 source={} spare=0
+lists 0: authors 5 octets \"AU\\x00\\x01a\", sets 8 octets \"ST\\x00\\x00ST\\x00\\x00\"
+the list is written: cleared=0 length=9 \"{}\"
 clear \"Example.com\"
-enter result=2 disposition=1 dkim=0 spf=0 source={source} \"example.com\"
+enter result=2 {numbers} \"example.com\" lists=0
 ",
-        "00".repeat(16)
+        "00".repeat(16),
+        "x".repeat(253)
     );
-    assert_eq!(report, Err(expected));
+    assert_eq!(report.err(), Some(expected));
 }
 
 #[test]
@@ -102,7 +120,7 @@ fn an_answer_that_never_came() {
     assert_eq!(said(&tally), "no clearing was accepted in 7 histories");
     tally.add(&Call::Clear(Vec::new()), Ok(()));
     assert_eq!(said(&tally), "no entry was accepted in 7 histories");
-    tally.add(&Call::Enter(entry()), Ok(()));
+    tally.add(&enter(), Ok(()));
     assert_eq!(said(&tally), "no call was refused 11 in 7 histories");
 }
 
@@ -121,8 +139,8 @@ fn the_sums_are_of_the_calls_alone() {
     // Before the first clearing the rows may hold anything.
     assert_eq!(sums.check(&[row(1, 9)]), Ok(()));
     sums.note(&Call::Clear(Vec::new()));
-    sums.note(&Call::Enter(entry()));
-    sums.note(&Call::Enter(entry()));
+    sums.note(&enter());
+    sums.note(&enter());
     assert_eq!(sums.check(&[row(1, 1), row(7, 0), row(1, 1)]), Ok(()));
     let past = [vec![row(1, 2)], vec![row(0, 0); 255], vec![row(1, 1)]].concat();
     assert_eq!(sums.check(&past), Ok(()));
@@ -158,14 +176,16 @@ fn the_histories_have_everything() {
     };
     assert!(histories.iter().any(twice));
     let uncleared =
-        |history: &History| matches!(history.acts.first(), Some(Act::Call(Call::Enter(_))));
+        |history: &History| matches!(history.acts.first(), Some(Act::Call(Call::Enter { .. })));
     assert!(histories.iter().any(uncleared));
     for dots in [".", ".."] {
         let of = |clears: bool| {
             let ends = |act: &Act| match act {
                 Act::Call(Call::Clear(domain)) => clears && ends_in(domain, dots),
-                Act::Call(Call::Enter(entry)) => !clears && ends_in(&entry.finding.domain, dots),
-                Act::Write { .. } => false,
+                Act::Call(Call::Enter { entry, .. }) => {
+                    !clears && ends_in(&entry.finding.domain, dots)
+                }
+                _ => false,
             };
             histories
                 .iter()
@@ -180,4 +200,34 @@ fn the_histories_have_everything() {
         );
     }
     assert!(histories[3] == history(SEED, 3));
+}
+
+/// What they have since a row has two numbers.
+#[test]
+fn the_histories_have_lists_and_any_octets() {
+    let histories: Vec<History> = (0..1_000).map(|index| history(SEED, index)).collect();
+    let acts = || histories.iter().flat_map(|history| &history.acts);
+    let entries = || {
+        acts().filter_map(|act| match act {
+            Act::Call(Call::Enter { entry, beside }) => Some((entry, *beside)),
+            _ => None,
+        })
+    };
+    let rows = || histories.iter().flat_map(|history| &history.rows);
+    assert!(entries().any(|(entry, _)| entry.finding.dkim > 1));
+    assert!(entries().any(|(entry, _)| entry.finding.spf > 1));
+    assert!(entries().any(|(entry, _)| entry.author > 2));
+    assert!(entries().any(|(entry, _)| entry.set > 3));
+    assert!((0..4).all(|number| entries().any(|(_, beside)| beside == number)));
+    assert!(rows().any(|row| row.seen.dkim > 1 && row.seen.spare > 0));
+    assert!(rows().any(|row| row.seen.author > 255));
+    let lists = || {
+        acts().filter_map(|act| match act {
+            Act::Forge(list) => Some(list),
+            _ => None,
+        })
+    };
+    assert!(lists().any(|list| list.cleared == 0));
+    assert!(lists().any(|list| list.cleared > 1));
+    assert!(lists().any(|list| list.length > 253));
 }

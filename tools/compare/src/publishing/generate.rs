@@ -50,8 +50,8 @@ pub fn case(seed: u64, index: u64) -> Case {
     Case { numbers, rua, lent }
 }
 
-fn numbers(random: &mut Random) -> RecordNumbers {
-    // Mostly settings that can be written.
+/// Settings by numbers, mostly ones that can be written.
+pub fn numbers(random: &mut Random) -> RecordNumbers {
     let strange = random.percent(30);
     let mut number = |most: usize, unlisted: bool| match unlisted && random.percent(15) {
         true => random.pick(UNLISTED),

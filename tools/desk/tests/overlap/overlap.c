@@ -7,7 +7,7 @@
 
 #include "waslidhaj.h"
 
-enum { ARENA = 32768, OUT = 12288, FAR = 4200, PAINT = 0x5a };
+enum { ARENA = 32768, OUT = 12288, FAR = 4200, PAINT = 0x5a, ROWS = 12 };
 
 /* Where the overlapping call is made, how that was before, and the output of the other call. */
 static uint8_t arena[ARENA] __attribute__((aligned(16)));
@@ -331,100 +331,184 @@ static int same_list(waslidhaj_list_changed first, waslidhaj_list_changed second
          same_refusal(first.refusal, second.refusal);
 }
 
-/* The octet after a row's flags is padding, and nobody's. */
-static void even_out(uint8_t *rows, const uint8_t *from, size_t count) {
-  size_t index;
-  for (index = 0; index < count; index++)
-    rows[24 * index + 19] = from[24 * index + 19];
+static const uint8_t AUTHORS[] = "AU\0\13example.com";
+static const uint8_t SETS[] = "ST\0\55ID\0\20\1\1\2s1example.comID\0\25\0\0\0bounce.example.netST\0";
+
+static waslidhaj_text text_of(const void *octets, size_t length) {
+  waslidhaj_text text;
+  text.octets = (const uint8_t *)octets;
+  text.length = length;
+  return text;
+}
+
+/* A list of one author, and one of two sets. */
+static waslidhaj_lists both_lists(void) {
+  waslidhaj_lists lists;
+  lists.authors = text_of(AUTHORS, sizeof AUTHORS - 1);
+  lists.sets = text_of(SETS, sizeof SETS);
+  return lists;
+}
+
+static waslidhaj_entry passing(void) {
+  waslidhaj_entry entry;
+  memset(&entry, 0, sizeof entry);
+  entry.finding.result = WASLIDHAJ_RESULT_PASS;
+  return entry;
+}
+
+static waslidhaj_list named(const char *domain, size_t length) {
+  return waslidhaj_clear(waslidhaj_new_list(), (const uint8_t *)domain, length, NULL, 0).list;
+}
+
+/* Free rows where the output would be. */
+static waslidhaj_row *lend_rows(void) {
+  waslidhaj_row *rows = (waslidhaj_row *)(void *)(arena + OUT);
+  paint();
+  memset(rows, 0, ROWS * sizeof *rows);
+  return rows;
+}
+
+static waslidhaj_list_changed enter_apart(waslidhaj_list list, waslidhaj_entry entry, const uint8_t *domain, size_t length,
+                                          size_t rows_length) {
+  return waslidhaj_enter_apart(list, entry, domain, length, AUTHORS, sizeof AUTHORS - 1, SETS, sizeof SETS,
+                               (waslidhaj_row *)(void *)apart, rows_length);
 }
 
 /* A domain shifted against rows: cleared, or entered in a list that is named so. */
 static void rows_at(const char *domain, size_t length, waslidhaj_list list, int enters) {
   static uint8_t own[300];
-  waslidhaj_row *rows = (waslidhaj_row *)(void *)(arena + OUT);
-  waslidhaj_row *other = (waslidhaj_row *)(void *)apart;
+  waslidhaj_row *rows = lend_rows();
   waslidhaj_list_changed first, second;
-  waslidhaj_entry entry;
-  const uint8_t *at;
-  memset(&entry, 0, sizeof entry);
-  entry.finding.result = WASLIDHAJ_RESULT_PASS;
+  const uint8_t *at = place(domain, length, shift);
   memcpy(own, domain, length);
-  paint();
-  memset(rows, 0, 12 * sizeof *rows);
-  at = place(domain, length, shift);
-  keep(12 * sizeof *rows);
+  keep(ROWS * sizeof *rows);
   if (enters) {
-    first = waslidhaj_enter_apart(list, entry, own, length, other, 12);
-    second = waslidhaj_enter(list, entry, at, length, rows, 12);
+    first = enter_apart(list, passing(), own, length, ROWS);
+    second = waslidhaj_enter(list, passing(), at, length, both_lists(), rows, ROWS);
   } else {
-    first = waslidhaj_clear_apart(list, own, length, other, 12);
-    second = waslidhaj_clear(list, at, length, rows, 12);
+    first = waslidhaj_clear_apart(list, own, length, (waslidhaj_row *)(void *)apart, ROWS);
+    second = waslidhaj_clear(list, at, length, rows, ROWS);
   }
-  even_out(arena + OUT, before + OUT, 12);
-  even_out(apart, before + OUT, 12);
-  compare(same_list(first, second), 12 * sizeof *rows);
+  compare(same_list(first, second), ROWS * sizeof *rows);
+}
+
+/* Whether a text so shifted has an octet in common with so many octets of output. */
+static int overlaps(waslidhaj_text text, size_t octets) { return shift > -(long)text.length && shift < (long)octets; }
+
+/* The authors or the sets shifted against rows: where they overlap there are no rows, and what is refused before 12 is refused as
+ * without an overlap. */
+static void lists_at(int of_sets, waslidhaj_list list, waslidhaj_entry entry, unsigned number) {
+  static const uint8_t domain[] = "example.com";
+  waslidhaj_row *rows = lend_rows();
+  waslidhaj_lists lists = both_lists();
+  waslidhaj_text *text = of_sets ? &lists.sets : &lists.authors;
+  waslidhaj_list_changed first, second;
+  int without = overlaps(*text, ROWS * sizeof *rows);
+  text->octets = place(text->octets, text->length, shift);
+  keep(ROWS * sizeof *rows);
+  first = enter_apart(list, entry, domain, 11, without ? 0 : ROWS);
+  second = waslidhaj_enter(list, entry, domain, 11, lists, rows, ROWS);
+  if (second.refusal.number != (without && number == 0 ? 12u : number))
+    differs("another refusal than is due");
+  compare(same_list(first, second), ROWS * sizeof *rows);
+}
+
+static void lists(void) {
+  waslidhaj_list list = named("example.com", 11);
+  waslidhaj_entry failing = passing(), past_authors = passing(), past_sets = passing();
+  int of_sets;
+  failing.finding.result = WASLIDHAJ_RESULT_NONE;
+  past_authors.author = 1;
+  past_sets.set = 2;
+  doing = "a list and the rows";
+  for (of_sets = 0; of_sets < 2; of_sets++)
+    for (shift = -(long)sizeof SETS - 1; shift <= (long)(ROWS * sizeof(waslidhaj_row)) + 1; shift++) {
+      lists_at(of_sets, list, passing(), 0);
+      lists_at(of_sets, list, failing, 14);
+      lists_at(of_sets, named("example.net", 11), passing(), 27);
+      lists_at(of_sets, list, past_authors, 28);
+      lists_at(of_sets, list, past_sets, 28);
+    }
 }
 
 static void rows(void) {
   static char longest[300];
-  waslidhaj_list named = waslidhaj_new_list();
+  waslidhaj_list list;
   size_t index;
   for (index = 0; index < sizeof longest; index++)
     longest[index] = index % 2 == 0 ? 'a' : '.';
-  named = waslidhaj_clear(named, (const uint8_t *)longest, 254, NULL, 0).list;
+  list = named(longest, 254);
   doing = "a domain and the rows";
-  for (shift = -310; shift <= 310; shift++) {
+  for (shift = -310; shift <= 400; shift++) {
     rows_at("example.com", 11, waslidhaj_new_list(), 0);
-    rows_at("a..b", 4, named, 0);
+    rows_at("a..b", 4, list, 0);
     for (index = 252; index <= 256; index++) {
       rows_at(longest, index, waslidhaj_new_list(), 0);
-      rows_at(longest, index, named, 1);
+      rows_at(longest, index, list, 1);
     }
-    rows_at(longest, sizeof longest, named, 0);
-    rows_at(longest, sizeof longest, named, 1);
-    rows_at("example.com", 11, named, 1);
+    rows_at(longest, sizeof longest, list, 0);
+    rows_at(longest, sizeof longest, list, 1);
+    rows_at("example.com", 11, list, 1);
   }
 }
 
 /* ---- Writers ---- */
 
-static void file_name_at(size_t receiver_length, size_t domain_length, size_t id_length, int which, uint8_t has_id,
-                         size_t out_length) {
-  static uint8_t texts[3][300];
-  size_t lengths[3];
-  const uint8_t *at[3];
-  waslidhaj_written first, second;
+/* A receiver, a domain and an id, one of them shifted against the output. */
+static uint8_t names[3][300];
+
+static void lend_names(const size_t *lengths, const uint8_t **at, int which, size_t out_length) {
   size_t index;
-  lengths[0] = receiver_length;
-  lengths[1] = domain_length;
-  lengths[2] = id_length;
-  for (index = 0; index < sizeof texts[0]; index++) {
-    texts[0][index] = index % 2 == 0 ? 'A' : '.';
-    texts[1][index] = index % 2 == 0 ? 'b' : '.';
-    texts[2][index] = 'c';
+  for (index = 0; index < sizeof names[0]; index++) {
+    names[0][index] = index % 2 == 0 ? 'A' : '.';
+    names[1][index] = index % 2 == 0 ? 'b' : '.';
+    names[2][index] = 'c';
   }
   paint();
   for (index = 0; index < 3; index++)
-    at[index] = (int)index == which ? place(texts[index], lengths[index], shift) : texts[index];
+    at[index] = (int)index == which ? place(names[index], lengths[index], shift) : names[index];
   keep(out_length);
-  first = waslidhaj_file_name_apart(texts[0], lengths[0], texts[1], lengths[1], 1, UINT64_MAX, has_id, texts[2], lengths[2],
+}
+
+static void file_name_at(const size_t *lengths, int which, uint8_t has_id, size_t out_length) {
+  const uint8_t *at[3];
+  waslidhaj_written first, second;
+  lend_names(lengths, at, which, out_length);
+  first = waslidhaj_file_name_apart(names[0], lengths[0], names[1], lengths[1], 1, UINT64_MAX, has_id, names[2], lengths[2],
                                     apart, out_length);
   second = waslidhaj_file_name(at[0], lengths[0], at[1], lengths[1], 1, UINT64_MAX, has_id, at[2], lengths[2], arena + OUT,
                                out_length);
   compare(same_written(first, second), out_length);
 }
 
-static void file_names(void) {
+static void subject_at(const size_t *lengths, int which, size_t out_length) {
+  const uint8_t *at[3];
+  waslidhaj_written first, second;
+  lend_names(lengths, at, which, out_length);
+  first = waslidhaj_subject_apart(names[0], lengths[0], names[1], lengths[1], names[2], lengths[2], apart, out_length);
+  second = waslidhaj_subject(at[0], lengths[0], at[1], lengths[1], at[2], lengths[2], arena + OUT, out_length);
+  compare(same_written(first, second), out_length);
+}
+
+static void named_texts(void) {
+  static const size_t few[] = {11, 13, 5}, most[] = {254, 253, 64}, receiver[] = {255, 253, 64}, domain[] = {253, 255, 64},
+                      id[] = {253, 253, 65}, no_id[] = {253, 253, 300};
   int which;
-  doing = "a text of a file name and its output";
+  doing = "a text of a file name or a subject and its output";
   for (which = 0; which < 3; which++)
     for (shift = -320; shift <= 700; shift++) {
-      file_name_at(11, 13, 5, which, 1, 60);
-      file_name_at(254, 253, 64, which, 1, 620);
-      file_name_at(255, 253, 64, which, 1, 620);
-      file_name_at(253, 255, 64, which, 1, 620);
-      file_name_at(253, 253, 65, which, 1, 20);
-      file_name_at(253, 253, 300, which, 0, 620);
+      file_name_at(few, which, 1, 60);
+      file_name_at(most, which, 1, 620);
+      file_name_at(receiver, which, 1, 620);
+      file_name_at(domain, which, 1, 620);
+      file_name_at(id, which, 1, 20);
+      file_name_at(no_id, which, 0, 620);
+      subject_at(few, which, 70);
+      subject_at(few, which, 69);
+      subject_at(most, which, WASLIDHAJ_SUBJECT_OCTETS);
+      subject_at(receiver, which, 620);
+      subject_at(domain, which, 620);
+      subject_at(id, which, 620);
     }
 }
 
@@ -457,6 +541,110 @@ static void records(void) {
       record_at(longest, 4097, 9, 4300);
       record_at((const uint8_t *)"mailto:a@example.com;", 21, 2, 20);
     }
+  }
+}
+
+/* ---- Reports ---- */
+
+static const waslidhaj_settings SETTINGS = {2, 3, 3, 0, 0, 0, 0};
+
+static waslidhaj_reporter reporting(void) {
+  waslidhaj_reporter reporter;
+  reporter.organization = text_of("Gate & Sons", 11);
+  reporter.email = text_of("dmarc@gate.example", 18);
+  reporter.contact = text_of("https://gate.example/dmarc", 26);
+  reporter.id = text_of("r7", 2);
+  reporter.begin = 1700000000;
+  reporter.end = 1700086399;
+  return reporter;
+}
+
+static waslidhaj_row counted(void) {
+  waslidhaj_row row;
+  memset(&row, 0, sizeof row);
+  row.count = 5;
+  row.seen.dkim = 255;
+  row.seen.spare = 9;
+  return row;
+}
+
+static waslidhaj_written report_apart(const waslidhaj_row *rows, size_t rows_length, waslidhaj_reporter reporter,
+                                      size_t out_length) {
+  return waslidhaj_report_apart(named("example.com", 11), waslidhaj_gather(rows, rows_length), SETTINGS, AUTHORS,
+                                sizeof AUTHORS - 1, SETS, sizeof SETS, reporter.organization.octets,
+                                reporter.organization.length, reporter.email.octets, reporter.email.length,
+                                reporter.contact.octets, reporter.contact.length, reporter.id.octets, reporter.id.length,
+                                reporter.begin, reporter.end, apart, out_length);
+}
+
+/* A list or a text of a report shifted against its output: where they overlap, there is no output, and what is refused before 10
+ * is refused as without an overlap. */
+static void report_at(int which, waslidhaj_reporter reporter, size_t out_length, unsigned number) {
+  waslidhaj_row row = counted();
+  waslidhaj_lists lists = both_lists();
+  waslidhaj_text *texts[] = {&lists.authors,  &lists.sets,       &reporter.organization,
+                             &reporter.email, &reporter.contact, &reporter.id};
+  waslidhaj_text *text = texts[which];
+  waslidhaj_written first, second;
+  int without = overlaps(*text, out_length);
+  const uint8_t *at;
+  paint();
+  at = place(text->octets, text->length, shift);
+  keep(out_length);
+  first = report_apart(&row, 1, reporter, without ? 0 : out_length);
+  text->octets = at;
+  second = waslidhaj_report(named("example.com", 11), &row, 1, SETTINGS, lists, reporter, arena + OUT, out_length);
+  if (second.refusal.number != (without && number == 0 ? 10u : number))
+    differs("another refusal than is due");
+  compare(same_written(first, second), out_length);
+}
+
+/* Rows that lie in the output, which is written over them. */
+static void report_over_rows(size_t rows_length, size_t out_length) {
+  waslidhaj_row rows[ROWS];
+  waslidhaj_written first, second;
+  size_t index;
+  uint8_t *at;
+  for (index = 0; index < ROWS; index++) {
+    rows[index] = counted();
+    rows[index].seen.source[15] = (uint8_t)index;
+  }
+  paint();
+  at = place(rows, sizeof rows, shift);
+  keep(out_length);
+  first = report_apart(rows, rows_length, reporting(), out_length);
+  second = waslidhaj_report(named("example.com", 11), (waslidhaj_row *)(void *)at, rows_length, SETTINGS, both_lists(),
+                            reporting(), arena + OUT, out_length);
+  if (second.refusal.number != (out_length < FAR ? 10 : 0))
+    differs("another refusal than is due");
+  compare(same_written(first, second), out_length);
+}
+
+static void reports(void) {
+  static uint8_t longest[4097];
+  waslidhaj_row row = counted();
+  waslidhaj_reporter long_contact = reporting(), too_long = reporting(), no_id = reporting();
+  size_t needed = report_apart(&row, 1, reporting(), 0).refusal.place;
+  int which;
+  memset(longest, '&', sizeof longest);
+  long_contact.contact = text_of(longest, 4096);
+  too_long.contact = text_of(longest, 4097);
+  no_id.id.length = 0;
+  doing = "a list or a text of a report and its output";
+  for (which = 0; which < 6; which++)
+    for (shift = -(long)sizeof SETS - 1; shift <= (long)needed + 1; shift++) {
+      report_at(which, reporting(), needed, 0);
+      report_at(which, reporting(), needed - 1, 10);
+      report_at(which, no_id, needed, 11);
+    }
+  for (shift = -FAR; shift <= FAR; shift += 7) {
+    report_at(4, long_contact, 4100, 10);
+    report_at(4, too_long, 4100, 19);
+  }
+  doing = "the rows of a report and its output";
+  for (shift = -FAR / 32 * 32; shift <= 2 * FAR; shift += 4) {
+    report_over_rows(1, 100);
+    report_over_rows(ROWS, 2 * FAR);
   }
 }
 
@@ -596,14 +784,10 @@ static void nothing_lent(void) {
   static waslidhaj_row row;
   waslidhaj_called first, second;
   waslidhaj_state state = asked();
-  waslidhaj_settings settings = {2, 3, 3, 0, 0, 0, 0};
   waslidhaj_list list = waslidhaj_new_list();
-  waslidhaj_entry entry;
   waslidhaj_check check;
   int same = 1;
-  memset(&entry, 0, sizeof entry);
   memset(&check, 0, sizeof check);
-  entry.finding.result = WASLIDHAJ_RESULT_PASS;
   doing = "NULL and length 0";
   shift = 0;
   first = waslidhaj_open(state, NULL, 0, 1, 1);
@@ -626,12 +810,12 @@ static void nothing_lent(void) {
   same &= waslidhaj_clear(list, NULL, 0, NULL, 0).refusal.number == 11;
   same &= waslidhaj_clear(list, (const uint8_t *)"a", 1, NULL, 0).refusal.number == 0;
   list = waslidhaj_clear(list, (const uint8_t *)"a", 1, &row, 0).list;
-  same &= waslidhaj_enter(list, entry, NULL, 0, NULL, 0).refusal.number == 27;
-  same &= waslidhaj_enter(list, entry, (const uint8_t *)"a", 1, NULL, 0).refusal.number == 12;
+  same &= waslidhaj_enter(list, passing(), NULL, 0, both_lists(), NULL, 0).refusal.number == 27;
+  same &= waslidhaj_enter(list, passing(), (const uint8_t *)"a", 1, both_lists(), NULL, 0).refusal.number == 12;
   same &= waslidhaj_file_name(NULL, 0, NULL, 0, 0, 0, 1, NULL, 0, NULL, 0).refusal.number == 11;
   same &= waslidhaj_file_name((const uint8_t *)"a", 1, (const uint8_t *)"b", 1, 0, 0, 0, NULL, 0, NULL, 0).refusal.place == 11;
-  same &= waslidhaj_write_record(settings, NULL, 0, NULL, 0).refusal.place == 18;
-  same &= waslidhaj_write_record(settings, NULL, 0, arena, 18).length == 18;
+  same &= waslidhaj_write_record(SETTINGS, NULL, 0, NULL, 0).refusal.place == 18;
+  same &= waslidhaj_write_record(SETTINGS, NULL, 0, arena, 18).length == 18;
   same &= waslidhaj_read_record(NULL, 0).is_record == 0;
   same &= waslidhaj_check_start(&check, NULL, 0, NULL, 0).refusal.number == 11;
   same &= waslidhaj_check_start(&check, (const uint8_t *)"a", 1, NULL, 0).refusal.number == 23;
@@ -644,6 +828,28 @@ static void nothing_lent(void) {
   compared += 28;
   if (!same)
     differs("another thing is given");
+}
+
+/* The same of a list, of a report and of its subject. */
+static void no_report_lent(void) {
+  waslidhaj_row row = counted();
+  waslidhaj_list list = named("example.com", 11);
+  waslidhaj_lists lists = both_lists(), no_lists;
+  waslidhaj_reporter reporter;
+  int same = 1;
+  memset(&no_lists, 0, sizeof no_lists);
+  memset(&reporter, 0, sizeof reporter);
+  same &= waslidhaj_enter(list, passing(), (const uint8_t *)"example.com", 11, no_lists, &row, 1).refusal.number == 28;
+  same &= waslidhaj_report(waslidhaj_new_list(), NULL, 0, SETTINGS, no_lists, reporter, NULL, 0).refusal.number == 27;
+  same &= waslidhaj_report(list, NULL, 0, SETTINGS, no_lists, reporter, NULL, 0).refusal.number == 18;
+  same &= waslidhaj_report(list, &row, 1, SETTINGS, no_lists, reporter, NULL, 0).refusal.number == 28;
+  same &= waslidhaj_report(list, &row, 1, SETTINGS, lists, reporter, NULL, 0).refusal.number == 19;
+  same &= waslidhaj_report(list, &row, 1, SETTINGS, lists, reporting(), NULL, 0).refusal.number == 10;
+  same &= waslidhaj_subject(NULL, 0, NULL, 0, NULL, 0, NULL, 0).refusal.number == 11;
+  same &= waslidhaj_subject(AUTHORS, 1, AUTHORS, 1, AUTHORS, 1, NULL, 0).refusal.place == 44;
+  compared += 8;
+  if (!same)
+    differs("another thing is given for a report");
 }
 
 static void ranges(void) {
@@ -659,9 +865,9 @@ static void ranges(void) {
   right &= !waslidhaj_overlap(arena, 10, arena, 0) && !waslidhaj_overlap(NULL, 0, NULL, 0);
   right &= waslidhaj_overlap(arena, SIZE_MAX, arena + 10, 10) && waslidhaj_overlap(arena + 10, 10, arena, SIZE_MAX);
   right &= waslidhaj_overlap(high, 10, high + 9, SIZE_MAX) && !waslidhaj_overlap(high, SIZE_MAX, arena, 10);
-  right &= waslidhaj_overlap_rows(arena + 24, 1, (const waslidhaj_row *)(const void *)arena, 2);
-  right &= !waslidhaj_overlap_rows(arena + 48, 1, (const waslidhaj_row *)(const void *)arena, 2);
-  right &= waslidhaj_overlap_rows(arena + 48, 1, (const waslidhaj_row *)(const void *)arena, SIZE_MAX / 24 + 2);
+  right &= waslidhaj_overlap_rows(arena + 63, 1, (const waslidhaj_row *)(const void *)arena, 2);
+  right &= !waslidhaj_overlap_rows(arena + 64, 1, (const waslidhaj_row *)(const void *)arena, 2);
+  right &= waslidhaj_overlap_rows(arena + 64, 1, (const waslidhaj_row *)(const void *)arena, SIZE_MAX / 32 + 2);
   compared += 11;
   if (!right)
     differs("the ranges are told apart wrongly");
@@ -715,11 +921,14 @@ int main(void) {
   verdicts();
   sheets();
   rows();
-  file_names();
+  lists();
+  named_texts();
   records();
+  reports();
   check_answers();
   checks();
   nothing_lent();
+  no_report_lent();
   opened_again();
   printf("%zu calls, all the same\n", compared);
   return 0;

@@ -47,7 +47,8 @@ static size_t stage_count;
 static check_stage checks[CHECKS];
 static size_t check_count;
 static text answers[12], policies[11], sheets[8], entries[3];
-static text domain_longest, rua_longest;
+static text domain_longest, rua_longest, reporter_longest;
+static text authors[3], sets[4];
 
 static uint64_t seed = 1;
 
@@ -59,7 +60,8 @@ static uint8_t random_octet(void) {
 static void put(text *to, const void *from, size_t length) {
   if (to->length + length > sizeof to->octets)
     abort();
-  memcpy(to->octets + to->length, from, length);
+  if (length > 0)
+    memcpy(to->octets + to->length, from, length);
   to->length += length;
 }
 
@@ -333,6 +335,43 @@ static void make_texts(void) {
   put_text(&entries[2], "@a ");
 }
 
+static waslidhaj_lists lists_of(size_t which) {
+  waslidhaj_lists lists;
+  lists.authors.octets = authors[which % 3].octets;
+  lists.authors.length = authors[which % 3].length;
+  lists.sets.octets = sets[which % 4].octets;
+  lists.sets.length = sets[which % 4].length;
+  return lists;
+}
+
+/* The longest author and the longest set; as many of none as there is room for; one set of as many identifiers; random octets. */
+static void make_lists(void) {
+  static text set;
+  const text *domain = &domain_longest;
+  uint8_t octet;
+  put_record(&authors[0], "AU", domain->octets, domain->length);
+  while (waslidhaj_pack_identifier(set.octets, &set.length, 16 * 515, WASLIDHAJ_DKIM, WASLIDHAJ_TEMPORARY_ERROR, domain->octets,
+                                   domain->length, domain->octets, domain->length))
+    ;
+  if (set.length != WASLIDHAJ_SET_OCTETS)
+    abort();
+  put_record(&sets[0], "ST", set.octets, set.length);
+  for (set.length = 0; set.length + 4 <= SHEET;) {
+    put_record(&authors[1], "AU", NULL, 0);
+    put_record(&sets[1], "ST", NULL, 0);
+    put_record(&set, "ID", NULL, 0);
+  }
+  put_record(&sets[2], "ST", set.octets, set.length - 8);
+  while (authors[2].length < SHEET) {
+    octet = random_octet();
+    put(&authors[2], &octet, 1);
+    octet = random_octet();
+    put(&sets[3], &octet, 1);
+  }
+  memset(reporter_longest.octets, '&', 4097);
+  reporter_longest.length = 4096;
+}
+
 /* ---- The calls ---- */
 
 /* Where each call leaves what it gives, and memory that is lent to it. */
@@ -348,6 +387,8 @@ static waslidhaj_check check;
 static size_t printed;
 static uint8_t lent[SHEET + 2 * WASLIDHAJ_PRINTED_OCTETS];
 static waslidhaj_row rows[WASLIDHAJ_ROWS + 4];
+static waslidhaj_gathered gathered;
+static uint8_t report[WASLIDHAJ_REPORT_OCTETS];
 
 static void call_open(void) {
   for (size_t index = 0; index < stage_count; index++)
@@ -429,22 +470,104 @@ static void call_clear_overlapping(void) {
   changed = waslidhaj_clear(changed.list, (const uint8_t *)rows, domain_longest.length, rows, WASLIDHAJ_ROWS);
 }
 
-static void call_enter(void) {
+static waslidhaj_entry passing(void) {
   waslidhaj_entry entry;
   memset(&entry, 0, sizeof entry);
   entry.finding.result = WASLIDHAJ_RESULT_PASS;
+  return entry;
+}
+
+/* The first free row, and a 257th source; places past a list, and at its far end. */
+static void call_enter(void) {
+  const text *domain = &domain_longest;
+  waslidhaj_entry entry = passing();
   for (int index = 0; index < 300; index++) {
     entry.source[0] = (uint8_t)index;
-    changed = waslidhaj_enter(changed.list, entry, domain_longest.octets, domain_longest.length, rows, WASLIDHAJ_ROWS);
+    entry.source[1] = (uint8_t)(index >> 8);
+    changed = waslidhaj_enter(changed.list, entry, domain->octets, domain->length, lists_of(0), rows, WASLIDHAJ_ROWS);
+  }
+  for (size_t index = 1; index < 12; index++) {
+    entry.author = index % 3 == 1 ? SHEET / 4 - 1 : (uint32_t)index;
+    entry.set = index % 4 == 1 ? SHEET / 4 - 1 : 0;
+    changed = waslidhaj_enter(changed.list, entry, domain->octets, domain->length, lists_of(index), rows, WASLIDHAJ_ROWS);
   }
 }
 
 static void call_enter_overlapping(void) {
-  waslidhaj_entry entry;
-  memset(&entry, 0, sizeof entry);
-  entry.finding.result = WASLIDHAJ_RESULT_PASS;
-  memcpy(rows, domain_longest.octets, domain_longest.length);
-  changed = waslidhaj_enter(changed.list, entry, (const uint8_t *)rows, domain_longest.length, rows, WASLIDHAJ_ROWS);
+  const text *domain = &domain_longest;
+  memcpy(rows, domain->octets, domain->length);
+  changed = waslidhaj_enter(changed.list, passing(), (const uint8_t *)rows, domain->length, lists_of(0), rows, WASLIDHAJ_ROWS);
+}
+
+/* Every row has a count, all that it has is the longest, and its places are these. */
+static void fill_rows(uint32_t place) {
+  memset(rows, 0, sizeof rows);
+  for (size_t index = 0; index < sizeof rows / sizeof *rows; index++) {
+    memset(rows[index].seen.source, 0x11, sizeof rows[index].seen.source);
+    rows[index].seen.disposition = WASLIDHAJ_DISPOSITION_QUARANTINE;
+    rows[index].seen.author = rows[index].seen.set = place;
+    rows[index].count = UINT32_MAX;
+  }
+}
+
+/* Of rows that all have a count, and of random octets. */
+static void call_gather(void) {
+  fill_rows(0);
+  for (int turn = 0; turn < 2; turn++) {
+    gathered = waslidhaj_gather(rows, sizeof rows / sizeof *rows);
+    for (size_t index = 0; index < sizeof rows; index++)
+      ((uint8_t *)rows)[index] = random_octet();
+  }
+}
+
+/* The report of all rows, by a reporter whose texts have so many octets. */
+static void write_report(const uint8_t *contact, size_t length, size_t which, size_t room) {
+  waslidhaj_settings settings = {1, 1, 1, 1, 1, 1, 1};
+  const text *domain = &domain_longest;
+  waslidhaj_reporter reporter;
+  reporter.organization.octets = reporter.email.octets = reporter_longest.octets;
+  reporter.organization.length = reporter.email.length = length;
+  reporter.contact.octets = contact;
+  reporter.contact.length = length;
+  reporter.id.octets = (const uint8_t *)"0123456789012345678901234567890123456789012345678901234567890123";
+  reporter.id.length = 64;
+  reporter.begin = reporter.end = UINT64_MAX;
+  changed = waslidhaj_clear(changed.list, domain->octets, domain->length, NULL, 0);
+  written = waslidhaj_report(changed.list, rows, WASLIDHAJ_ROWS, settings, lists_of(which), reporter, report, room);
+}
+
+/* With lists of every kind, and places at their begin and far on; the last report is the longest. */
+static void call_report(void) {
+  for (size_t which = 24; which-- > 0;) {
+    fill_rows(which < 12 ? 0 : SHEET / 4 - 1);
+    write_report(reporter_longest.octets, 4097, which, sizeof report);
+    write_report(reporter_longest.octets, 4096, which, sizeof report - 1);
+    write_report(reporter_longest.octets, 4096, which, sizeof report);
+  }
+  if (written.length != sizeof report)
+    abort();
+}
+
+static void call_report_overlapping(void) {
+  fill_rows(0);
+  write_report(report + 1, reporter_longest.length, 0, sizeof report);
+  memcpy(report + 1, reporter_longest.octets, reporter_longest.length);
+  write_report(report + 1, reporter_longest.length, 0, sizeof report);
+  if (written.refusal.place != sizeof report)
+    abort();
+}
+
+static void call_subject(void) {
+  const text *domain = &domain_longest;
+  written = waslidhaj_subject(domain->octets, domain->length, domain->octets, domain->length, (const uint8_t *)"a1", 2, lent,
+                              WASLIDHAJ_SUBJECT_OCTETS);
+}
+
+static void call_subject_overlapping(void) {
+  const text *domain = &domain_longest;
+  memcpy(lent, domain->octets, domain->length);
+  written = waslidhaj_subject(lent, domain->length, lent, domain->length, (const uint8_t *)"a1", 2, lent,
+                              WASLIDHAJ_SUBJECT_OCTETS);
 }
 
 static void call_file_name(void) {
@@ -558,6 +681,11 @@ static const entry calls[] = {
     {"waslidhaj_write_record", call_write_record},
     {"waslidhaj_write_record overlapping", call_write_record_overlapping},
     {"waslidhaj_read_record", call_read_record},
+    {"waslidhaj_gather", call_gather},
+    {"waslidhaj_report", call_report},
+    {"waslidhaj_report overlapping", call_report_overlapping},
+    {"waslidhaj_subject", call_subject},
+    {"waslidhaj_subject overlapping", call_subject_overlapping},
     {"waslidhaj_read_field", call_read_field},
     {"waslidhaj_check_start", call_check_start},
     {"waslidhaj_check_next", call_check_next},
@@ -614,6 +742,7 @@ int main(int argc, char **argv) {
   make_checks();
   make_sheets();
   make_texts();
+  make_lists();
   for (size_t index = 0; index < sizeof calls / sizeof *calls; index++) {
     if (strcmp(mode, "measure") == 0)
       measure(&calls[index]);

@@ -1,5 +1,6 @@
 //! A report address: whether it agreed, in each form, and what is said beside that.
 
+use crate::ends::{ends, misused};
 use desk::script::{Ended, Folder};
 
 const POLICY: &str = "blue.example.com";
@@ -40,16 +41,6 @@ fn run(options: &[&str], answers: &str) -> Ended {
 /// Runs words after `--address` without a file.
 fn without_file(words: &[&str]) -> Ended {
     Folder::new().dmarc(&[&["--address"], words].concat())
-}
-
-/// Ends so, prints this and says these lines.
-fn ends(ended: &Ended, status: i32, printed: &str, said: &[&str]) {
-    let said: String = said.iter().map(|line| format!("dmarc: {line}\n")).collect();
-    assert_eq!(
-        (ended.printed.as_str(), ended.said.as_str()),
-        (printed, said.as_str())
-    );
-    assert_eq!(ended.status, status);
 }
 
 const REPLACED: &str = "\"v=DMARC1; rua=mailto:a@red.example.net, https://red.example.net/r\"";
@@ -374,8 +365,6 @@ fn wrong_words() {
         ),
         (&["--field", "a", "b"], "unknown option: --field"),
     ] {
-        let ended = without_file(words);
-        assert_eq!(ended.said, format!("dmarc: {line}\n{}", usage.printed));
-        assert_eq!((ended.status, ended.printed.as_str()), (2, ""), "{words:?}");
+        misused(&[&["--address"], words].concat(), line);
     }
 }

@@ -4,6 +4,8 @@ use std::fs::{self, File, Permissions};
 use std::os::unix::fs::PermissionsExt;
 use std::process::{Command, Stdio};
 
+use crate::ends::misused;
+use desk::root;
 use desk::script::{dmarc, Folder};
 
 const MESSAGE: &str = "author b exists supported\nanswer _dmarc.b none\n";
@@ -123,6 +125,12 @@ const CANNOT_WRITE: &str =
 #[test]
 fn standard_output_that_is_full_or_closed() {
     let folder = Folder::with("x.txt", MESSAGE);
+    let day = fs::read_to_string(root().join("examples/day.txt")).expect("a day");
+    folder.write(
+        "none.txt",
+        day.replace("\nrow ", "\n#").replace("\n  ", "\n#"),
+    );
+    folder.write("day.txt", day);
     for words in [
         "x.txt",
         "--explain x.txt",
@@ -132,6 +140,10 @@ fn standard_output_that_is_full_or_closed() {
         "--address b mailto:x@b",
         "--address --next b mailto:x@c",
         "--address b mailto:x",
+        "--day day.txt",
+        "--report day.txt",
+        "--report --name day.txt",
+        "--report none.txt",
     ] {
         for to in [">/dev/full", ">&-"] {
             let mut shell = Command::new("bash");
@@ -150,7 +162,7 @@ fn standard_output_that_is_full_or_closed() {
 #[test]
 fn standard_input_that_is_closed() {
     let folder = Folder::new();
-    for words in ["-", "--address b mailto:x@b -"] {
+    for words in ["-", "--address b mailto:x@b -", "--day -", "--report -"] {
         let mut shell = Command::new("bash");
         let line = format!("exec {} {words} <&-", dmarc().display());
         shell.args(["-c", &line]).current_dir(folder.path());
@@ -198,16 +210,14 @@ const MISUSES: &[(&[&str], &str)] = &[
         &["--next", "--status", "a"],
         "--next and --status do not go together",
     ),
+    (&["--csv", "a"], "--csv goes with --day"),
+    (&["--name", "a"], "--name goes with --report"),
+    (&["--subject", "a"], "--subject goes with --report"),
 ];
 
 #[test]
 fn wrong_words_get_the_usage() {
-    let folder = Folder::new();
-    let usage = folder.dmarc(&["--help"]);
-    assert_eq!((usage.status, usage.said.as_str()), (0, ""));
     for (words, line) in MISUSES {
-        let ended = folder.dmarc(words);
-        assert_eq!(ended.said, format!("dmarc: {line}\n{}", usage.printed));
-        assert_eq!((ended.status, ended.printed.as_str()), (2, ""), "{words:?}");
+        misused(words, line);
     }
 }

@@ -132,7 +132,12 @@ fn temporary_files_of_a_record() {
         "dmarc: nothing more can be written in {}, where temporary files go; its disk may be full",
         folder.display()
     );
-    let runs: [&[&str]; 2] = [&["--read", "x"], &["--address", "b", "mailto:x@b", "x.txt"]];
+    let runs: [&[&str]; 4] = [
+        &["--read", "x"],
+        &["--address", "b", "mailto:x@b", "x.txt"],
+        &["--day", "x.txt"],
+        &["--report", "x.txt"],
+    ];
     for words in runs {
         let Some(full) = disk(16 * PAGE).run(&house, "dmarc", words) else {
             return;

@@ -4,6 +4,8 @@
 mod addresses;
 mod answers;
 mod builds;
+mod days;
+mod ends;
 mod fields;
 mod files;
 mod first_run;

@@ -4,6 +4,7 @@ use crate::case::{case, domain_of, refusal, words};
 use crate::octets::{an, an_none, an_text, au, id, printed, run, E};
 use evaluator::book::{Book, Step};
 use evaluator::domain::{fault, without_dot, Domain};
+use evaluator::lists::Lists;
 use evaluator::message::Message;
 use evaluator::refusal::Refusal;
 use evaluator::report::{file_name, FileName};
@@ -330,8 +331,15 @@ fn entry(domain: &[u8]) -> Entry {
             domain: domain.to_vec(),
             ..Finding::default()
         },
+        ..Entry::default()
     }
 }
+
+/// An author domain, and a set without identifiers.
+const LISTS: Lists = Lists {
+    authors: b"AU\0\x0bexample.com",
+    sets: b"ST\0\0",
+};
 
 #[test]
 fn point_134_a_day_s_rows() {
@@ -341,12 +349,12 @@ fn point_134_a_day_s_rows() {
         assert_eq!(list.clear(cleared, &mut rows), Ok(()));
         assert_eq!(list.domain(), Some(b"example.com".as_slice()));
         for own in [b"example.com".as_slice(), b"example.com.", b"Example.COM."] {
-            assert_eq!(list.enter(&entry(own), &mut rows), Ok(()));
+            assert_eq!(list.enter(&entry(own), LISTS, &mut rows), Ok(()));
         }
         assert_eq!(rows.map(|row| row.count), [3, 0]);
         let others: [&[u8]; 5] = [b"example.com..", b".", b"", b"example.co.", b".example.com"];
         for other in others {
-            let refused = list.enter(&entry(other), &mut rows);
+            let refused = list.enter(&entry(other), LISTS, &mut rows);
             assert_eq!(refused, Err(refusal(27, 0)), "{}", other.escape_ascii());
         }
         for bad in [b".".as_slice(), b"..", b"example.org..", b".org."] {

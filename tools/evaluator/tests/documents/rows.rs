@@ -1,13 +1,20 @@
-//! Ask 1 of document 02 and readings 117 to 123: a day's rows.
+//! Ask 1 of document 02 and readings 117 to 123, with Ask 9's two numbers and
+//! readings 157 and 158: a day's rows.
 
 use crate::case::{case, refusal, Case};
 use crate::octets::E;
 use evaluator::book::{Book, Step};
+use evaluator::lists::Lists;
 use evaluator::refusal::Refusal;
 use evaluator::rows::{DayList, Entry, Finding, Row, Seen};
 
 const DOMAIN: &[u8] = b"example.com";
 const MOST: u32 = 4_294_967_295;
+/// Two author domains, and two sets without identifiers.
+const LISTS: Lists = Lists {
+    authors: b"AU\0\x0bexample.comAU\0\x0bexample.com",
+    sets: b"ST\0\0ST\0\0",
+};
 
 /// A source of its own for each number.
 fn source(number: u32) -> [u8; 16] {
@@ -24,10 +31,12 @@ fn entry(number: u32) -> Entry {
         finding: Finding {
             result: 2,
             disposition: 0,
-            dkim: false,
-            spf: false,
+            dkim: 0,
+            spf: 0,
             domain: DOMAIN.to_vec(),
         },
+        author: 0,
+        set: 0,
     }
 }
 
@@ -64,7 +73,7 @@ fn cleared() -> DayList {
 /// Enters a verdict that must be refused, and leaves the rows as they are.
 fn refused(list: &DayList, entry: &Entry, rows: &mut [Row]) -> Refusal {
     let before = rows.to_vec();
-    let refusal = list.enter(entry, rows).expect_err("a refusal");
+    let refusal = list.enter(entry, LISTS, rows).expect_err("a refusal");
     assert!(rows == before);
     refusal
 }
@@ -74,7 +83,7 @@ fn filled(lent: usize) -> (Vec<Row>, u32) {
     let list = cleared();
     let mut rows = vec![Row::default(); lent];
     let mut number = 0;
-    while number < 300 && list.enter(&entry(number), &mut rows).is_ok() {
+    while number < 300 && list.enter(&entry(number), LISTS, &mut rows).is_ok() {
         number += 1;
     }
     if number < 300 {
@@ -111,7 +120,7 @@ fn point_121_row_257_is_neither_matched_nor_cleared() {
     let mut list = cleared();
     let mut rows = rows(&[7; 260]);
     assert_eq!(refused(&list, &entry(256), &mut rows), refusal(12, 0));
-    assert_eq!(list.enter(&entry(255), &mut rows), Ok(()));
+    assert_eq!(list.enter(&entry(255), LISTS, &mut rows), Ok(()));
     assert_eq!(counts(&rows)[254..], [7, 8, 7, 7, 7, 7]);
     assert_eq!(list.clear(b"example.org", &mut rows), Ok(()));
     let expected = [[0; 256].as_slice(), &[7; 4]].concat();
@@ -119,21 +128,21 @@ fn point_121_row_257_is_neither_matched_nor_cleared() {
     // The first free row, though row 257 would match.
     let mut other = entry(256);
     other.finding.domain = b"example.org".to_vec();
-    assert_eq!(list.enter(&other, &mut rows), Ok(()));
+    assert_eq!(list.enter(&other, LISTS, &mut rows), Ok(()));
     assert_eq!((rows[0], rows[256]), (row(256, 1), row(256, 7)));
 }
 
 #[test]
 fn point_120_a_match_behind_a_free_row() {
     let mut rows = rows(&[3, 0, 4, 0]);
-    assert_eq!(cleared().enter(&entry(2), &mut rows), Ok(()));
+    assert_eq!(cleared().enter(&entry(2), LISTS, &mut rows), Ok(()));
     assert_eq!(counts(&rows), [3, 0, 5, 0]);
 }
 
 #[test]
 fn point_120_a_free_row_does_not_match() {
     let mut rows = rows(&[3, 0, 0, 0]);
-    assert_eq!(cleared().enter(&entry(3), &mut rows), Ok(()));
+    assert_eq!(cleared().enter(&entry(3), LISTS, &mut rows), Ok(()));
     assert_eq!(rows, [row(0, 3), row(3, 1), row(2, 0), row(3, 0)]);
 }
 
@@ -141,7 +150,7 @@ fn point_120_a_free_row_does_not_match() {
 fn point_120_the_first_match_counts_even_if_it_is_full() {
     let list = cleared();
     let mut rows = [row(1, 5), row(0, MOST - 1), row(0, 6), row(2, 0)];
-    assert_eq!(list.enter(&entry(0), &mut rows), Ok(()));
+    assert_eq!(list.enter(&entry(0), LISTS, &mut rows), Ok(()));
     assert_eq!(counts(&rows), [5, MOST, 6, 0]);
     assert_eq!(refused(&list, &entry(0), &mut rows), refusal(13, 0));
     // Without a free row it is 13 as well.
@@ -152,12 +161,14 @@ fn point_120_the_first_match_counts_even_if_it_is_full() {
 #[test]
 fn point_120_a_match_is_equal_in_all() {
     type Change = fn(&mut Entry);
-    let changes: [Change; 5] = [
+    let changes: [Change; 7] = [
         |entry| entry.source[0] ^= 1,
         |entry| entry.source[15] ^= 1,
         |entry| entry.finding.disposition = 2,
-        |entry| entry.finding.dkim = true,
-        |entry| entry.finding.spf = true,
+        |entry| entry.finding.dkim = 1,
+        |entry| entry.finding.spf = 1,
+        |entry| entry.author = 1,
+        |entry| entry.set = 1,
     ];
     for change in changes {
         let (list, mut rows) = (cleared(), [row(0, 1); 2]);
@@ -165,12 +176,15 @@ fn point_120_a_match_is_equal_in_all() {
         change(&mut other);
         assert_eq!(refused(&list, &other, &mut rows), refusal(12, 0));
         rows[1].count = 0;
-        assert_eq!(list.enter(&other, &mut rows), Ok(()));
+        assert_eq!(list.enter(&other, LISTS, &mut rows), Ok(()));
         let seen = Seen {
             source: other.source,
             disposition: other.finding.disposition,
             dkim: other.finding.dkim,
             spf: other.finding.spf,
+            spare: 0,
+            author: other.author,
+            set: other.set,
         };
         assert_eq!(rows, [row(0, 1), Row { seen, count: 1 }]);
     }
@@ -178,7 +192,7 @@ fn point_120_a_match_is_equal_in_all() {
     let mut rows = [row(0, 1)];
     let mut pass = entry(0);
     pass.finding.result = 1;
-    assert_eq!(cleared().enter(&pass, &mut rows), Ok(()));
+    assert_eq!(cleared().enter(&pass, LISTS, &mut rows), Ok(()));
     assert_eq!(rows, [row(0, 2)]);
 }
 
@@ -191,11 +205,11 @@ fn a_row_of_another_disposition_number_matches_nothing() {
     let mut other = entry(0);
     other.finding.disposition = 7;
     assert_eq!(refused(&list, &other, &mut rows), refusal(14, 0));
-    assert_eq!(list.enter(&entry(0), &mut rows), Ok(()));
+    assert_eq!(list.enter(&entry(0), LISTS, &mut rows), Ok(()));
     assert_eq!(rows, [odd, odd, row(0, 1)]);
     // A free row is taken whatever stands in it.
     rows[1].count = 0;
-    assert_eq!(list.enter(&entry(1), &mut rows), Ok(()));
+    assert_eq!(list.enter(&entry(1), LISTS, &mut rows), Ok(()));
     assert_eq!(rows, [odd, row(1, 1), row(0, 1)]);
 }
 
@@ -228,7 +242,7 @@ fn point_119_another_policy_domain() {
     let mut same = entry(0);
     same.finding.domain = b"EXAMPLE.com".to_vec();
     let mut rows = rows(&[1]);
-    assert_eq!(list.enter(&same, &mut rows), Ok(()));
+    assert_eq!(list.enter(&same, LISTS, &mut rows), Ok(()));
     assert_eq!(counts(&rows), [2]);
 }
 
@@ -309,7 +323,7 @@ fn point_123_the_sum_of_the_counts() {
     for number in 0..40 {
         let mut entry = entry(number % 5);
         entry.finding.disposition = (number % 2) as u8;
-        if list.enter(&entry, &mut rows).is_ok() {
+        if list.enter(&entry, LISTS, &mut rows).is_ok() {
             accepted[usize::from(entry.finding.disposition)] += 1;
         }
     }
@@ -324,7 +338,7 @@ fn point_123_the_sum_of_the_counts() {
 }
 
 /// The finding of a case that is run to its verdict, 7 at 0 on the way.
-fn finding(case: &Case) -> (u8, u8, bool, bool, String) {
+fn finding(case: &Case) -> (u8, u8, u8, u8, String) {
     let mut book = Book::default();
     assert_eq!(book.finding(), Err(refusal(7, 0)));
     assert_eq!(case.open_in(&mut book), Ok(()));
@@ -350,38 +364,29 @@ fn point_117_what_is_entered() {
     let com = || "example.com".to_string();
     let none = String::new;
     let pass = own().dkim("mail.example.com").spf("mail.example.com");
-    assert_eq!(finding(&pass), (1, 0, true, false, com()));
-    assert_eq!(
-        finding(&own().spf("example.COM")),
-        (1, 0, false, true, com())
-    );
+    assert_eq!(finding(&pass), (1, 0, 1, 0, com()));
+    assert_eq!(finding(&own().spf("example.COM")), (1, 0, 0, 1, com()));
     // One aligned identifier of a kind is enough.
     let some = own()
         .dkim("other.test")
         .dkim("example.com")
         .identifier(1, 0, "example.com");
-    assert_eq!(finding(&some), (1, 0, true, false, com()));
-    assert_eq!(
-        finding(&own().dkim("other.test")),
-        (2, 2, false, false, com())
-    );
-    assert_eq!(finding(&own().support(0)), (2, 1, false, false, com()));
+    assert_eq!(finding(&some), (1, 0, 1, 0, com()));
+    assert_eq!(finding(&own().dkim("other.test")), (2, 2, 0, 0, com()));
+    assert_eq!(finding(&own().support(0)), (2, 1, 0, 0, com()));
     // An unknown alignment beside an aligned one, and alone.
     let beside = own()
         .dkim("other.test")
         .error("other.test")
         .spf("example.com");
-    assert_eq!(finding(&beside), (1, 0, false, true, com()));
+    assert_eq!(finding(&beside), (1, 0, 0, 1, com()));
     let alone = own().dkim("other.test").error("other.test");
-    assert_eq!(finding(&alone), (3, 3, false, false, com()));
+    assert_eq!(finding(&alone), (3, 3, 0, 0, com()));
     // Not judged.
     let nothing = case("example.com").dkim("example.com");
-    assert_eq!(finding(&nothing), (0, 0, false, false, none()));
+    assert_eq!(finding(&nothing), (0, 0, 0, 0, none()));
     let error = case("example.com").error("example.com").dkim("example.com");
-    assert_eq!(finding(&error), (3, 3, false, false, none()));
+    assert_eq!(finding(&error), (3, 3, 0, 0, none()));
     let broken = case("example.com").text("example.com", "v=DMARC1; p=often");
-    assert_eq!(
-        finding(&broken.dkim("example.com")),
-        (4, 0, false, false, com())
-    );
+    assert_eq!(finding(&broken.dkim("example.com")), (4, 0, 0, 0, com()));
 }

@@ -3,7 +3,7 @@
 use evaluator::policy::Settings;
 use records::agreement::{self, Reading, Writing};
 use records::code::{numbers, Code, Proved, RecordNumbers, RecordRead, Written};
-use records::{reading, writing};
+use records::{day, reading, writing};
 
 const DIFFER: &str = "the proved code and the second evaluator differ, so nothing is said: ";
 
@@ -37,6 +37,9 @@ fn writers_that_differ() {
 fn readers_that_differ() {
     let said = reading::lines(&Other, b"v=DMARC1; p=none").expect_err("a difference");
     assert!(said.starts_with(&format!("{DIFFER}the readings differ\n")));
+    let day = day::read(&Other, "x.txt", b"\nrecord \"v=DMARC1; p=none\"\n");
+    let said = day.expect_err("a difference");
+    assert!(said.starts_with(&format!("x.txt: line 2: {DIFFER}the readings differ\n")));
     // They agree on this one.
     let none = reading::lines(&Other, b"junk").expect_err("no record");
     assert!(none.starts_with("no policy record: "));

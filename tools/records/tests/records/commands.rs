@@ -139,10 +139,81 @@ fn an_address_is_checked() {
     );
 }
 
+const DAY: &str = "domain b
+record \"v=DMARC1; p=none\"
+organization c
+email d
+receiver e
+id f
+begin 1
+end 2
+";
+const ROW: &str = "row ::1 1 none author b\n";
+
+#[test]
+fn a_day_is_told() {
+    let printed = "source,count,disposition,dkim,spf,author,identifiers\r\n\
+                   ::1,1,none,not aligned,not aligned,b,\r\n";
+    prints(&["day", "csv", "x.txt"], ROW.as_bytes(), printed);
+    let (status, printed, said) = ends(&["day", "plain", "x.txt"], ROW.as_bytes());
+    assert_eq!((status, said.as_str()), (Some(0), ""));
+    assert!(printed.ends_with("\ntotal       0  reject\ntotal       1  all\n"));
+    let mistake = format!("{ROW}{ROW}");
+    fails(
+        &["day", "json", "x.txt"],
+        mistake.as_bytes(),
+        "x.txt: line 2: the row of line 1 again; give one with the sum of both\n",
+    );
+    fails(&["day", "name", "x"], b"", "FORM is plain, csv or json\n");
+}
+
+#[test]
+fn a_report_is_written() {
+    let day = format!("{DAY}{ROW}");
+    let (status, printed, said) = ends(&["report", "plain", "x.txt"], day.as_bytes());
+    let beside =
+        "file name: e!b!1!2!f.xml\nsubject: Report Domain: b Submitter: e Report-ID: <f>\n";
+    assert_eq!((status, said.as_str()), (Some(0), beside));
+    assert!(printed.ends_with("</auth_results></record></feedback>"));
+    prints(&["report", "name", "x"], day.as_bytes(), "e!b!1!2!f.xml\n");
+    let subject = "Report Domain: b Submitter: e Report-ID: <f>\n";
+    prints(&["report", "subject", "x"], day.as_bytes(), subject);
+    let (status, printed, said) = ends(&["report", "plain", "x.txt"], DAY.as_bytes());
+    assert_eq!((status, printed.as_str()), (Some(3), "refused 18 at 0\n"));
+    assert!(
+        said.starts_with("x.txt: refused 18: it has no row; "),
+        "{said}"
+    );
+    let such = "x.txt: a report needs a line such as: id r7\n";
+    let without = day.replace("id f\n", "");
+    fails(&["report", "name", "x.txt"], without.as_bytes(), such);
+    fails(
+        &["report", "csv", "x"],
+        b"",
+        "FORM is plain, name or subject\n",
+    );
+}
+
+/// No more is read than settles that it is too long.
+#[test]
+fn a_day_that_does_not_end() {
+    let zeros = File::open("/dev/zero").expect("zeros");
+    let ended = Command::new(env!("CARGO_BIN_EXE_dmarc-records"))
+        .args(["day", "plain", "x"])
+        .stdin(zeros)
+        .output();
+    let said = ended.expect("an end").stderr;
+    let expected = "x: it is over 8,388,608 octets, which no day needs\n";
+    assert_eq!(String::from_utf8_lossy(&said), expected);
+}
+
 #[test]
 fn misuses_get_the_usage() {
-    let words: [&[&str]; 5] = [
+    let words: [&[&str]; 8] = [
         &[],
+        &["day", "plain"],
+        &["report"],
+        &["report", "plain", "x", "y"],
         &["read", "v=DMARC1"],
         &["walk"],
         &CHECK[..3],

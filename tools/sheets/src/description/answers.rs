@@ -5,6 +5,9 @@ use super::tokens::{domain_octets, hex_words, Token};
 use crate::written::{answer_bytes, cut, status_number, Record};
 use evaluator::txt::Status;
 
+/// What stands before the texts of an answer.
+pub const BEFORE_TEXTS: &str = "`answer` and the asked name";
+
 const ANSWER_FORMS: &str = "an answer is none, error, quoted texts, or hex and its digits";
 
 /// What one line answers to a name.

@@ -2,7 +2,7 @@
 
 use std::collections::HashMap;
 
-use super::answers::{answer, pasted, AnswerLine};
+use super::answers::{answer, pasted, AnswerLine, BEFORE_TEXTS};
 use super::described::Mistake;
 use super::lines::each_line;
 use super::tokens::Token;
@@ -23,7 +23,7 @@ pub struct Collected {
 /// Reads a description that has answers alone.
 pub fn read_answers(description: &[u8]) -> Result<Vec<(AnswerLine, usize)>, Mistake> {
     let mut collected = Collected::default();
-    each_line(description, |tokens, line| {
+    each_line(description, BEFORE_TEXTS, |tokens, line| {
         let answer = answer_line(tokens)?;
         answer.map_or(Ok(()), |answer| collected.add(answer, line).map(drop))
     })?;

@@ -87,7 +87,8 @@ pub fn quoted(text: &[u8]) -> String {
     out
 }
 
-fn domain_word(domain: &[u8]) -> String {
+/// A domain as a word, in hex where it has other octets than plain ones.
+pub fn domain_word(domain: &[u8]) -> String {
     let plain = |octet: &u8| octet.is_ascii_alphanumeric() || b".-_".contains(octet);
     if domain.is_empty() || !domain.iter().all(plain) {
         return format!("hex:{}", hex(domain));

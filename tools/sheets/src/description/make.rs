@@ -1,11 +1,11 @@
 //! The sheet of a description.
 
-use super::answers::{answer, pasted, AnswerLine};
+use super::answers::{answer, pasted, AnswerLine, BEFORE_TEXTS};
 use super::collected::{check_name, Collected};
 use super::described::{Described, Mistake};
 use super::lines::each_line;
 use super::tokens::{after_front, domain_octets, hex_words, Token};
-use super::words::{number, EXISTENCES, OUTCOMES, SUPPORTS};
+use super::words::{number_of, outcome_of, EXISTENCES, SUPPORTS};
 use crate::shown::brief;
 use crate::written::{sheet_and_places, Record, MOST_BODY_OCTETS};
 use evaluator::sheet;
@@ -33,7 +33,9 @@ pub fn make(description: &[u8]) -> Result<Vec<u8>, String> {
 /// Reads a description.
 pub fn read(description: &[u8]) -> Result<Described, Mistake> {
     let mut maker = Maker::default();
-    each_line(description, |tokens, line| maker.line(tokens, line))?;
+    each_line(description, BEFORE_TEXTS, |tokens, line| {
+        maker.line(tokens, line)
+    })?;
     maker.finish()
 }
 
@@ -146,14 +148,6 @@ fn broken(sheet: &[u8], place: usize) -> String {
     }
 }
 
-fn number_of(words: &[&str], token: &Token, what: &str) -> Result<u8, String> {
-    let found = match token {
-        Token::Word(word) => number(words, word),
-        Token::Quoted(_) => None,
-    };
-    found.ok_or_else(|| format!("the {what} is one of {}", words.join(", ")))
-}
-
 /// A raw number written `name=7`.
 fn raw_number(token: &Token, name: &str) -> Result<u8, String> {
     let fault = || format!("`{name}=` and a number from 0 to 255 expected");
@@ -187,16 +181,13 @@ fn author(tokens: &[Token]) -> Result<Record, String> {
     Ok(Record::author(existence, support, &domain_octets(domain)?))
 }
 
-const OTHER_OUTCOMES: &str = "softfail, neutral, none and permerror are fail";
-
 fn identifier(kind: u8, tokens: &[Token]) -> Result<Record, String> {
     let [outcome, domain] = tokens else {
         return Err(
             "an identifier takes an outcome and a domain, as in: dkim pass example.com".to_string(),
         );
     };
-    let outcome = number_of(&OUTCOMES, outcome, "outcome");
-    let outcome = outcome.map_err(|reason| format!("{reason}; {OTHER_OUTCOMES}"))?;
+    let outcome = outcome_of(outcome)?;
     Ok(Record::identifier(kind, outcome, &domain_octets(domain)?))
 }
 

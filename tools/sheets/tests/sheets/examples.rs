@@ -1,4 +1,4 @@
-//! The files of examples/: the marked sheets as descriptions.
+//! The files of examples/: the marked sheets as descriptions, and a day.
 
 use std::collections::BTreeSet;
 use std::path::PathBuf;
@@ -19,7 +19,7 @@ fn file_of(row: &str) -> String {
 }
 
 #[test]
-fn exactly_the_files_of_the_marked_sheets() {
+fn exactly_the_files_of_the_marked_sheets_and_a_day() {
     let entries = std::fs::read_dir(folder()).expect("the folder");
     let entries = entries.map(|entry| entry.expect("an entry"));
     let files = entries
@@ -28,9 +28,10 @@ fn exactly_the_files_of_the_marked_sheets() {
     let found: BTreeSet<String> = files
         .map(|name| name.to_string_lossy().into_owned())
         .collect();
-    let wanted: BTreeSet<String> = MARKED.iter().map(|row| file_of(row.name)).collect();
+    let mut wanted: BTreeSet<String> = MARKED.iter().map(|row| file_of(row.name)).collect();
+    assert_eq!(wanted.len(), 15);
+    wanted.insert("day.txt".to_string());
     assert_eq!(found, wanted);
-    assert_eq!(found.len(), 15);
 }
 
 #[test]

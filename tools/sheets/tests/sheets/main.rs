@@ -14,6 +14,8 @@ mod calls;
 mod checks;
 mod commands;
 mod coverage;
+mod day_words;
+mod days;
 mod describing;
 mod domains;
 mod examples;

@@ -119,8 +119,8 @@ fn finding(own: Finding) -> rows::Finding {
     rows::Finding {
         result: result(own.result).number(),
         disposition: disposition(own.disposition).number(),
-        dkim: own.dkim,
-        spf: own.spf,
+        dkim: u8::from(own.dkim),
+        spf: u8::from(own.spf),
         domain: own.domain.into_bytes(),
     }
 }

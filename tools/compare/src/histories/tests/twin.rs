@@ -1,6 +1,8 @@
 //! Daily rows that keep the rules, or break one of them.
 
-use crate::histories::code::Code;
+mod lists;
+
+use crate::histories::code::{Changed, Code, Entered};
 use crate::wrongs::wrongs;
 use evaluator::domain::{fault, without_dot};
 use waslidhaj::raw::{Entry, FindingNumbers, List, ListChanged, Refusal, Row, Seen};
@@ -43,6 +45,51 @@ wrongs! {
     FinalDotIsAnotherDomain
     TwoFinalDotsCleared
     TwoFinalDotsEntered
+    NoAuthor
+    NoSet
+    NumbersByTheirLowOctet
+    NumbersOfTheOther
+    FlagsByTheirOctets
+    FlagIsItsLowestBit
+    OneIsTheOnlyFlag
+    FlagsWrittenAsTheyCome
+    RaisedRowWrittenAfresh
+    SpareMatched
+    SpareKept
+    SpareCleared
+    ListsNotRead
+    AuthorNotJudged
+    SetNotJudged
+    PlacesFromOne
+    OnePlaceMore
+    MarkRead
+    LowOctetFirst
+    LastRecordMayBeCut
+    LengthOfAnOctet
+    SeventeenIdentifiers
+    FifteenIdentifiers
+    SecondSpfAllowed
+    SpfAloneIsASecond
+    UnlistedKindAllowed
+    UnlistedOutcomeAllowed
+    ThirdOutcomeRefused
+    CutIdentifierLeftOut
+    ShortIdentifierIsZeros
+    EmptySetRefused
+    BadDomainIsABadSet
+    EverySetJudged
+    ListsBeforeTheDomain
+    ListsAfterTheRoom
+    ListsFirst
+    ClearedIsOneAlone
+    ClearedIsItsLowestBit
+    LengthPastTheDomainIsNone
+    LengthByItsLowOctet
+    ForgedDomainJudged
+    ListInLowerCase
+    EntryWritesTheList
+    ClearedFlagKept
+    NewListHasOctets
 }
 
 use Wrong::*;
@@ -53,26 +100,27 @@ pub struct Twin(pub Wrong);
 impl Code for Twin {
     fn new_list(&self) -> List {
         List {
-            cleared: false,
-            domain: [0; 253],
+            cleared: 0,
+            domain: [u8::from(self.is(NewListHasOctets)); 253],
             length: 0,
         }
     }
 
-    fn clear(&self, list: List, domain: &[u8], rows: &mut [Row]) -> ListChanged {
+    fn clear(&self, list: List, domain: &[u8], rows: &mut [Row]) -> Changed {
         let (list, number, place) = self.cleared(list, domain, rows);
         let refusal = Refusal { number, place };
-        ListChanged { list, refusal }
+        Ok(ListChanged { list, refusal })
     }
 
-    fn enter(&self, list: List, entry: Entry, domain: &[u8], rows: &mut [Row]) -> ListChanged {
-        let number = self.entered(&list, &entry, domain, rows);
-        let list = match number == 0 && self.is(NamedByAnEntry) {
-            true => named(list, domain),
-            false => list,
+    fn enter(&self, list: List, entered: Entered<'_>, rows: &mut [Row]) -> Changed {
+        let number = self.entered(&list, entered, rows);
+        let list = match self.0 {
+            NamedByAnEntry if number == 0 => named(list, entered.domain),
+            EntryWritesTheList if list.cleared != 0 => List { cleared: 1, ..list },
+            _ => list,
         };
         let refusal = Refusal { number, place: 0 };
-        ListChanged { list, refusal }
+        Ok(ListChanged { list, refusal })
     }
 }
 
@@ -80,18 +128,9 @@ fn named(mut list: List, domain: &[u8]) -> List {
     let length = domain.len().min(253);
     list.domain[..length].copy_from_slice(&domain[..length]);
     List {
-        cleared: true,
-        length,
+        cleared: 1,
+        length: length as u16,
         ..list
-    }
-}
-
-fn seen(entry: &Entry) -> Seen {
-    Seen {
-        source: entry.source,
-        disposition: entry.finding.disposition,
-        dkim: entry.finding.dkim,
-        spf: entry.finding.spf,
     }
 }
 
@@ -112,8 +151,10 @@ impl Twin {
             let own = 256 + usize::from(self.is(OneRowMoreCleared));
             for row in rows.iter_mut().take(own) {
                 row.count = 0;
-                if self.is(WholeRowsCleared) {
-                    *row = Row::default();
+                match self.0 {
+                    WholeRowsCleared => *row = Row::default(),
+                    SpareCleared => row.seen.spare = 0,
+                    _ => {}
                 }
             }
         }
@@ -126,24 +167,61 @@ impl Twin {
             Some(_) if self.is(BadDomainNames) => (named(list, &lower), 11, 0),
             Some(place) if self.is(BadDomainAtItsFault) => (list, 11, place),
             Some(_) => (list, 11, 0),
-            None if self.is(OldNameKept) && list.cleared => (list, 0, 0),
+            None if self.is(OldNameKept) && list.cleared != 0 => (list, 0, 0),
+            None if self.is(ClearedFlagKept) && list.cleared != 0 => {
+                let cleared = list.cleared;
+                let list = named(list, &lower);
+                (List { cleared, ..list }, 0, 0)
+            }
             None => (named(list, &lower), 0, 0),
         }
     }
 
-    fn entered(&self, list: &List, entry: &Entry, domain: &[u8], rows: &mut [Row]) -> u8 {
-        let pass_or_fail = self.pass_or_fail(&entry.finding);
-        let serves = self.serves(list, domain);
+    fn entered(&self, list: &List, given: Entered<'_>, rows: &mut [Row]) -> u8 {
+        let pass_or_fail = self.pass_or_fail(&given.entry.finding);
+        let serves = self.serves(list, given.domain);
+        let listed = self.listed(&given);
         let own = 256 + usize::from(self.is(OneRowMore)) - usize::from(self.is(OneRowFewer));
         let own = own.min(rows.len());
-        let chosen = self.chosen(&seen(entry), &rows[..own]);
+        let seen = self.seen(&given.entry);
+        let chosen = self.chosen(&seen, &rows[..own]);
         match chosen {
+            _ if self.is(ListsFirst) && !listed => 28,
             _ if self.is(DomainFirst) && !serves => 27,
             _ if !pass_or_fail => 14,
+            _ if self.is(ListsBeforeTheDomain) && !listed => 28,
             None if self.is(RoomFirst) => 12,
             _ if !serves => 27,
+            None if self.is(ListsAfterTheRoom) => 12,
+            _ if !listed => 28,
             None => 12,
-            Some(at) => self.raise(&mut rows[at], seen(entry)),
+            Some(at) => self.raise(&mut rows[at], seen),
+        }
+    }
+
+    /// A flag as it is read.
+    fn flag(&self, octet: u8) -> u8 {
+        match self.0 {
+            FlagsByTheirOctets | FlagsWrittenAsTheyCome => octet,
+            FlagIsItsLowestBit => octet & 1,
+            OneIsTheOnlyFlag => u8::from(octet == 1),
+            _ => u8::from(octet != 0),
+        }
+    }
+
+    fn seen(&self, entry: &Entry) -> Seen {
+        let (author, set) = match self.0 {
+            NumbersOfTheOther => (entry.set, entry.author),
+            _ => (entry.author, entry.set),
+        };
+        Seen {
+            source: entry.source,
+            disposition: entry.finding.disposition,
+            dkim: self.flag(entry.finding.dkim),
+            spf: self.flag(entry.finding.spf),
+            spare: 0,
+            author,
+            set,
         }
     }
 
@@ -157,16 +235,36 @@ impl Twin {
         result && finding.disposition <= most
     }
 
+    /// The policy domain of a list that was cleared.
+    fn named<'l>(&self, list: &'l List) -> Option<&'l [u8]> {
+        let cleared = match self.0 {
+            NeverClearedServes => true,
+            ClearedIsOneAlone => list.cleared == 1,
+            ClearedIsItsLowestBit => list.cleared & 1 == 1,
+            _ => list.cleared != 0,
+        };
+        let length = match self.0 {
+            LengthPastTheDomainIsNone if list.length > 253 => 0,
+            LengthByItsLowOctet => usize::from(list.length & 255).min(253),
+            _ => usize::from(list.length).min(253),
+        };
+        let own = &list.domain[..length];
+        let judged = self.is(ForgedDomainJudged) && fault(own).is_some();
+        (cleared && !judged).then_some(own)
+    }
+
     fn serves(&self, list: &List, domain: &[u8]) -> bool {
-        let own = &list.domain[..list.length];
-        let cleared = list.cleared || self.is(NeverClearedServes);
+        let Some(own) = self.named(list) else {
+            return false;
+        };
         let domain = match self.0 {
             FinalDotIsAnotherDomain => domain,
             TwoFinalDotsEntered => without_dot(without_dot(domain)),
             _ => without_dot(domain),
         };
-        let same = match self.0 {
+        match self.0 {
             CaseMatters => own == domain,
+            ListInLowerCase => own == domain.to_ascii_lowercase(),
             OneBitNeverMatters => {
                 let folded = |text: &[u8]| text.iter().map(|o| o | 0x20).collect::<Vec<u8>>();
                 folded(own) == folded(domain)
@@ -176,8 +274,7 @@ impl Twin {
                 own.eq_ignore_ascii_case(begin)
             }
             _ => own.eq_ignore_ascii_case(domain),
-        };
-        cleared && same
+        }
     }
 
     fn matches(&self, row: &Row, seen: &Seen) -> bool {
@@ -185,10 +282,24 @@ impl Twin {
         let own = &row.seen;
         own.source[skipped..] == seen.source[skipped..]
             && (own.disposition == seen.disposition || self.is(NoDisposition))
-            && (own.dkim == seen.dkim || self.is(NoDkim))
-            && (own.spf == seen.spf || self.is(NoSpf))
+            && (self.flag(own.dkim) == seen.dkim || self.is(NoDkim))
+            && (self.flag(own.spf) == seen.spf || self.is(NoSpf))
+            && (own.spare == 0 || !self.is(SpareMatched))
+            && self.same_numbers(own, seen)
             && (row.count > 0 || self.is(FreeRowMatches))
             && (row.count < u32::MAX || !self.is(PastAFullMatch))
+    }
+
+    fn same_numbers(&self, own: &Seen, seen: &Seen) -> bool {
+        let (author, set) = (own.author == seen.author, own.set == seen.set);
+        match self.0 {
+            NoAuthor => set,
+            NoSet => author,
+            NumbersByTheirLowOctet => {
+                own.author as u8 == seen.author as u8 && own.set as u8 == seen.set as u8
+            }
+            _ => author && set,
+        }
     }
 
     fn chosen(&self, seen: &Seen, rows: &[Row]) -> Option<usize> {
@@ -212,11 +323,15 @@ impl Twin {
         if row.count >= limit && !self.is(NoLimit) {
             return 13;
         }
+        let before = *row;
         row.count = row.count.wrapping_add(1 + u32::from(self.is(RaisedByTwo)));
-        let source = row.seen.source;
-        row.seen = seen;
-        if self.is(FreeRowKeepsItsSource) {
-            row.seen.source = source;
+        if before.count == 0 || self.is(RaisedRowWrittenAfresh) {
+            row.seen = seen;
+        }
+        match self.0 {
+            FreeRowKeepsItsSource => row.seen.source = before.seen.source,
+            SpareKept => row.seen.spare = before.seen.spare,
+            _ => {}
         }
         0
     }

@@ -66,8 +66,8 @@ fn finding_words(found: &Finding) -> String {
         "result={} disposition={} dkim={} spf={} domain={}",
         found.result,
         found.disposition,
-        u8::from(found.dkim),
-        u8::from(found.spf),
+        found.dkim,
+        found.spf,
         String::from_utf8_lossy(&found.domain),
     )
 }

@@ -1,0 +1,2 @@
+-- Laws of a record element, and the proofs of the functions.
+pub mod LineLaws

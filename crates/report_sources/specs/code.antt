@@ -1,0 +1,2 @@
+-- The parts of an address.
+pub mod Parts
