@@ -3,7 +3,7 @@ use policy::Bounds;
 
 // Whether a report address agreed: that is not known; a plain no; it is inside; it is confirmed, as it is or with the rua
 // text at a place in the scratch instead. Not known comes first, so that what says nothing reads so.
-#[derive(Drop)]
+#[derive(Clone, Copy)]
 pub enum Agreement {
     NotKnown,
     PlainNo,

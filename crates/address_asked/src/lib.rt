@@ -13,7 +13,7 @@ use address_point::CheckAhead;
 use domain::Octet;
 
 // No name, the target of a walk, or the confirming name.
-#[derive(Drop)]
+#[derive(Clone, Copy)]
 pub enum WaitedFor {
     Nothing,
     Walk { walk: usize, place: Octet },

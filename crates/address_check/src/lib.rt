@@ -6,7 +6,7 @@ use policy::Bounds;
 use walk_stop::KeptStop;
 
 // Where a check stands: on the policy domain's walk, on the host's, at the confirming name, or at an outcome.
-#[derive(Drop)]
+#[derive(Clone, Copy)]
 pub enum PointKind {
     Policy,
     Host,
@@ -21,7 +21,7 @@ pub enum PointKind {
 // The number of that, with where the policy domain's organizational domain begins in it, where the open walk stops, and the
 // place in the scratch. What its kind does not have is not read.
 #[repr(C)]
-#[derive(Drop)]
+#[derive(Clone, Copy)]
 pub struct CheckPoint {
     pub kind: u8,
     pub organization: Octet,
@@ -33,7 +33,7 @@ pub struct CheckPoint {
 // policy domain and the host in slots of 253 octets, their lengths, the answers accepted on the walks, and where the check
 // stands. It is numbers alone, as programs in other languages have it: any octets are one.
 #[repr(C)]
-#[derive(Drop)]
+#[derive(Clone, Copy)]
 pub struct Check {
     pub started: u8,
     pub asked: u8,
@@ -46,7 +46,7 @@ pub struct Check {
 }
 
 // Whether the address agreed, and how many names were asked for it.
-#[derive(Drop)]
+#[derive(Clone, Copy)]
 pub struct CheckOutcome {
     pub agreement: Agreement,
     pub count: usize,
@@ -54,7 +54,7 @@ pub struct CheckOutcome {
 
 // The next step: ask this name, given by its walk and place (walk 2 is the confirming name); give the outcome; or a
 // refusal.
-#[derive(Drop)]
+#[derive(Clone, Copy)]
 pub enum CheckStep {
     Ask { walk: usize, place: Octet },
     Outcome(CheckOutcome),
@@ -62,28 +62,28 @@ pub enum CheckStep {
 }
 
 // What the next step gives: the check goes on from here.
-#[derive(Drop)]
+#[derive(Clone, Copy)]
 pub struct CheckStepped {
     pub check: Check,
     pub step: CheckStep,
 }
 
 // What a result is: the outcome, or a refusal.
-#[derive(Drop)]
+#[derive(Clone, Copy)]
 pub enum CheckResulting {
     Outcome(CheckOutcome),
     Refused(Refusal),
 }
 
 // Whether a call was accepted.
-#[derive(Drop)]
+#[derive(Clone, Copy)]
 pub enum CheckAcceptance {
     Accepted,
     Refused(Refusal),
 }
 
 // What a start or an answer gives: the check goes on from here.
-#[derive(Drop)]
+#[derive(Clone, Copy)]
 pub struct CheckChanged {
     pub check: Check,
     pub acceptance: CheckAcceptance,
@@ -93,7 +93,7 @@ pub struct CheckChanged {
 // the outcome 2; refused 3. Agreement: not known 0, a plain no 1, inside 2, confirmed 3, replaced 4, by the rua text of
 // this length that begins at this place in the scratch.
 #[repr(C)]
-#[derive(Drop)]
+#[derive(Clone, Copy)]
 pub struct CheckGiven {
     pub kind: u8,
     pub agreement: u8,
@@ -107,7 +107,7 @@ pub struct CheckGiven {
 
 // The check to go on with, and what the call gives.
 #[repr(C)]
-#[derive(Drop)]
+#[derive(Clone, Copy)]
 pub struct CheckCalled {
     pub check: Check,
     pub given: CheckGiven,

@@ -33,7 +33,7 @@ const NOT_KNOWN: u8 = 7;
 const MOST_REPLIES: usize = 16;
 
 // What comes next: a name to ask, given by its walk and place, or the outcome.
-#[derive(Drop)]
+#[derive(Clone, Copy)]
 pub enum CheckAhead {
     Name { walk: usize, place: Octet },
     Outcome(Agreement),

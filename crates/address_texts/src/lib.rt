@@ -17,7 +17,7 @@ use txt_read::Front;
 const ANSWER_RECORDS: usize = 16;
 
 // What taking an answer at the confirming name gives.
-#[derive(Drop)]
+#[derive(Clone, Copy)]
 pub enum Confirming {
     Says(Agreement),
     Refused(Refusal),

@@ -9,7 +9,7 @@ use alignment::{Alignment, Kind, Outcome};
 use policy::{Mode, Settings};
 
 // The alignments of identifiers as digits to base 4, the first one lowest, and what the result is made from.
-#[derive(Drop)]
+#[derive(Clone, Copy)]
 pub struct Tally {
     pub digits: usize,
     pub aligned: bool,
@@ -18,7 +18,7 @@ pub struct Tally {
 }
 
 // What is settled of an identifier without a walk.
-#[derive(Drop)]
+#[derive(Clone, Copy)]
 pub enum Settled {
     Known(Alignment),
     Open,

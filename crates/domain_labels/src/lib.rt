@@ -8,7 +8,7 @@ use domain::{Labels, Octet, Starts};
 
 // A target of a walk: where it begins, and where it begins with one more label.
 #[repr(C)]
-#[derive(Drop)]
+#[derive(Clone, Copy)]
 pub struct Target {
     pub begin: Octet,
     pub wider: Octet,

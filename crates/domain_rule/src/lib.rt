@@ -9,7 +9,7 @@ use domain::{Labels, Octet};
 use text_class::Class;
 
 // Whether a text keeps the domain rule: how many labels it has, or where it first breaks the rule.
-#[derive(Drop)]
+#[derive(Clone, Copy)]
 pub enum Checked {
     Good(Labels),
     Bad(Octet),
@@ -35,7 +35,7 @@ const CLASSES: [u8; 256] = *b"\
     \x02\x02\x02\x02\x02\x02\x02\x02\x02\x02\x02\x02\x02\x02\x02\x02";
 
 // What one pass over a text finds: 0 if nothing is wrong, and then the number of labels.
-#[derive(Drop)]
+#[derive(Clone, Copy)]
 struct Scanned {
     wrong: usize,
     labels: usize,

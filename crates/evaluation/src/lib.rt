@@ -6,7 +6,7 @@ use verdict_judgement::{Judgement, Terms};
 
 // A message (its domains in slots of 253 octets, and three numbers for each), its accepted answers, and, once a name was
 // given to ask, what is stored of its walks and where it stands.
-#[derive(Drop)]
+#[derive(Clone, Copy)]
 pub struct Evaluation {
     pub started: bool,
     pub handed: bool,
@@ -21,14 +21,14 @@ pub struct Evaluation {
 }
 
 // A verdict, and how many names were asked for it.
-#[derive(Drop)]
+#[derive(Clone, Copy)]
 pub struct Verdict {
     pub judgement: Judgement,
     pub count: usize,
 }
 
 // The next step: ask this name, given by its walk and place; give the verdict; or a refusal.
-#[derive(Drop)]
+#[derive(Clone, Copy)]
 pub enum Step {
     Ask { walk: usize, place: Octet },
     Verdict(Verdict),
@@ -36,28 +36,28 @@ pub enum Step {
 }
 
 // What the next step gives: the evaluation goes on from here.
-#[derive(Drop)]
+#[derive(Clone, Copy)]
 pub struct Stepped {
     pub evaluation: Evaluation,
     pub step: Step,
 }
 
 // What a result is: the verdict, or a refusal.
-#[derive(Drop)]
+#[derive(Clone, Copy)]
 pub enum Resulting {
     Verdict(Verdict),
     Refused(Refusal),
 }
 
 // Whether a call was accepted.
-#[derive(Drop)]
+#[derive(Clone, Copy)]
 pub enum Acceptance {
     Accepted,
     Refused(Refusal),
 }
 
 // What an opening, an adding or an answer gives: the evaluation goes on from here.
-#[derive(Drop)]
+#[derive(Clone, Copy)]
 pub struct Changed {
     pub evaluation: Evaluation,
     pub acceptance: Acceptance,

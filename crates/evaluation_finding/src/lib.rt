@@ -14,7 +14,7 @@ use verdict_judgement::{Judgement, Terms};
 
 // What a verdict says to a day's list, and where the domain of its applied record begins in the author domain (its end where
 // there is none); or a refusal.
-#[derive(Drop)]
+#[derive(Clone, Copy)]
 pub enum Found {
     Verdict { finding: Finding, begin: Octet },
     Refused(Refusal),

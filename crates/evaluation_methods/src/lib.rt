@@ -9,7 +9,7 @@ use alignment::Kind;
 use reporting::Method;
 
 // The two methods: whether identifiers of the kind were given, and whether one is aligned.
-#[derive(Drop)]
+#[derive(Clone, Copy)]
 pub struct Methods {
     pub dkim: Method,
     pub spf: Method,

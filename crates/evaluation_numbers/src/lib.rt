@@ -7,7 +7,7 @@ use verdict_cursor::KeptRuling;
 
 // An evaluation between two calls. Any octets are one.
 #[repr(C)]
-#[derive(Drop)]
+#[derive(Clone, Copy)]
 pub struct State {
     pub started: u8,
     pub handed: u8,
@@ -33,7 +33,7 @@ pub struct State {
 // A verdict, and how many names were asked for it. Result: none 0, pass 1, fail 2, temperror 3, permerror 4; policy: none 0,
 // quarantine 1, reject 2, unknown 3; disposition: as the policy, defer 3; alignments: two bits each, the first lowest.
 #[repr(C)]
-#[derive(Drop)]
+#[derive(Clone, Copy)]
 pub struct VerdictNumbers {
     pub result: u8,
     pub policy: u8,
@@ -45,7 +45,7 @@ pub struct VerdictNumbers {
 
 // What a call gives. Kind: accepted 0, with the octets written; ask the name of this walk and place 1; verdict 2; refused 3.
 #[repr(C)]
-#[derive(Drop)]
+#[derive(Clone, Copy)]
 pub struct GivenNumbers {
     pub kind: u8,
     pub walk: usize,
@@ -57,7 +57,7 @@ pub struct GivenNumbers {
 
 // The evaluation to go on with, and what the call gives.
 #[repr(C)]
-#[derive(Drop)]
+#[derive(Clone, Copy)]
 pub struct Called {
     pub state: State,
     pub given: GivenNumbers,
@@ -65,7 +65,7 @@ pub struct Called {
 
 // What is entered in a day's rows. Kind: a verdict 2, refused 3.
 #[repr(C)]
-#[derive(Drop)]
+#[derive(Clone, Copy)]
 pub struct FoundNumbers {
     pub kind: u8,
     pub finding: Finding,

@@ -2,14 +2,14 @@
 use octets::Refusal;
 
 // The methods that a field names; neither for `none`.
-#[derive(Drop)]
+#[derive(Clone, Copy)]
 pub struct NamedMethods {
     pub dkim: bool,
     pub spf: bool,
 }
 
 // What a reader answers: the methods named, or why the text is no such field.
-#[derive(Drop)]
+#[derive(Clone, Copy)]
 pub enum FieldRead {
     Named(NamedMethods),
     Refused(Refusal),
@@ -18,7 +18,7 @@ pub enum FieldRead {
 // What a reader answers, by numbers, for programs in other languages; a refusal of number 0 is none, and a method is named 1 or not 0. Refused, both
 // are 1.
 #[repr(C)]
-#[derive(Drop)]
+#[derive(Clone, Copy)]
 pub struct FieldNumbers {
     pub refusal: Refusal,
     pub dkim: u8,

@@ -1,7 +1,7 @@
 // A policy record: what it sets.
 
 // What a domain owner asks for.
-#[derive(Drop)]
+#[derive(Clone, Copy)]
 pub enum Policy {
     None,
     Quarantine,
@@ -9,7 +9,7 @@ pub enum Policy {
 }
 
 // The setting of p, sp or np.
-#[derive(Drop)]
+#[derive(Clone, Copy)]
 pub enum Setting {
     Absent,
     Invalid,
@@ -17,14 +17,14 @@ pub enum Setting {
 }
 
 // The alignment mode of adkim or aspf.
-#[derive(Drop)]
+#[derive(Clone, Copy)]
 pub enum Mode {
     Relaxed,
     Strict,
 }
 
 // The setting of psd: y, n or u.
-#[derive(Drop)]
+#[derive(Clone, Copy)]
 pub enum Psd {
     Yes,
     No,
@@ -32,7 +32,7 @@ pub enum Psd {
 }
 
 // What a policy record sets, a field for each tag.
-#[derive(Drop)]
+#[derive(Clone, Copy)]
 pub struct Settings {
     pub p: Setting,
     pub sp: Setting,
@@ -46,7 +46,7 @@ pub struct Settings {
 }
 
 // What a text is.
-#[derive(Drop)]
+#[derive(Clone, Copy)]
 pub enum Reading {
     Record(Settings),
     NoRecord,
@@ -54,7 +54,7 @@ pub enum Reading {
 
 // Where a part stands in a text: the octet at which it begins, and how many octets it has.
 #[repr(C)]
-#[derive(Drop)]
+#[derive(Clone, Copy)]
 pub struct Bounds {
     pub begin: usize,
     pub length: usize,

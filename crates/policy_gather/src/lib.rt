@@ -8,7 +8,7 @@ use text_class::Class;
 const V: usize = 8;
 
 // Whether a text is a policy record; how many tags have names that are not known; and where the values of the others stand, by the tags' numbers. A length of 0 stands for no tag.
-#[derive(Drop)]
+#[derive(Clone, Copy)]
 pub struct Gathered {
     pub valid: bool,
     pub others: usize,

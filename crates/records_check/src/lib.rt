@@ -15,7 +15,7 @@ use records_read::RecordKind;
 const SHEET_OCTETS: usize = 65536;
 
 // What may come after a record, or where the sheet is broken.
-#[derive(Drop)]
+#[derive(Clone, Copy)]
 enum NextPhase {
     Next(Phase),
     Broken(usize),

@@ -6,7 +6,7 @@ ghost use Rattle.records_fields.specs.code.Layout.{name_in, status_in, bytes_in}
 use txt::Status;
 
 // What a sheet is found to be: so many records, none of them wrong; or broken at a place.
-#[derive(Drop)]
+#[derive(Clone, Copy)]
 pub enum Scanned {
     Whole(usize),
     Broken(usize),

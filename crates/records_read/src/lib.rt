@@ -5,7 +5,7 @@ ghost use Rattle.records.specs.Sheet.{entry_in, entry_of};
 ghost use Rattle.records_read.specs.code.Kinds.{record_kind};
 
 // What a record is.
-#[derive(Drop)]
+#[derive(Clone, Copy)]
 pub enum RecordKind {
     Author,
     Identifier,

@@ -9,7 +9,7 @@ ghost use Rattle.report_kept.specs.code.View.{arrived, at_address, plain};
 // flags; an address's kind (0 either, 1 dotted, 2 of groups), digits of its open number, and numbers before that; how long the row's
 // author domain is, how many identifiers it has, and of the open identifier how long domain and selector are, and its outcome.
 #[repr(C)]
-#[derive(Drop)]
+#[derive(Clone, Copy)]
 pub struct ReaderState {
     pub taken: u64,
     pub refused: u64,
@@ -39,7 +39,7 @@ pub struct ReaderState {
 }
 
 // What is written into the row's octets: at most four from a place on.
-#[derive(Drop)]
+#[derive(Clone, Copy)]
 pub struct Written {
     pub at: u16,
     pub count: u8,
@@ -50,7 +50,7 @@ pub struct Written {
 }
 
 // What an octet says: 0 the text goes on, 1 a row is handed out too, 20 or 21 it is refused; the state then, and what is written.
-#[derive(Drop)]
+#[derive(Clone, Copy)]
 pub struct Turn {
     pub says: u8,
     pub state: ReaderState,

@@ -8,7 +8,7 @@ ghost use Rattle.report_states.specs.Standing.{in_entity, text_left, id_left};
 ghost use Rattle.report_leaves.specs.code.Leaves.{meant, entity_meant, NameTurns};
 
 // What an octet says: 0 the value goes on, 1 it has ended, 20 it is refused; and how far it is then.
-#[derive(Drop)]
+#[derive(Clone, Copy)]
 pub struct Turn {
     pub says: u8,
     pub at: u8,

@@ -7,7 +7,7 @@ use report_kept::ReaderState;
 // The event: 0 all is used, 1 a row is handed out, 2 refused; the refusal's number and place where it is 2; the row's count
 // where it is 1. All others are 0.
 #[repr(C)]
-#[derive(Drop)]
+#[derive(Clone, Copy)]
 pub struct Told {
     pub event: u64,
     pub number: u64,
@@ -17,7 +17,7 @@ pub struct Told {
 
 // Behind a part: the state then, how many octets of the part are used, and what there is to tell.
 #[repr(C)]
-#[derive(Drop)]
+#[derive(Clone, Copy)]
 pub struct PartTold {
     pub state: ReaderState,
     pub used: usize,
@@ -26,7 +26,7 @@ pub struct PartTold {
 
 // Behind a declared end: the state then, and whether the text was whole, event 0, or the refusal.
 #[repr(C)]
-#[derive(Drop)]
+#[derive(Clone, Copy)]
 pub struct EndTold {
     pub state: ReaderState,
     pub told: Told,

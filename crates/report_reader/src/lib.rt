@@ -10,7 +10,7 @@ const EARLY: u8 = 22;
 const LAST: u8 = 65;
 
 // Whether a row is handed out, how many octets are used, and the state then.
-#[derive(Drop)]
+#[derive(Clone, Copy)]
 pub struct Progress {
     pub gives: bool,
     pub used: usize,

@@ -17,14 +17,14 @@ const NO_PIECE: u8 = 255;
 const FAR: u64 = 18446744073709551000;
 
 // How many octets are used, and the state then.
-#[derive(Drop)]
+#[derive(Clone, Copy)]
 pub struct Run {
     pub used: usize,
     pub state: ReaderState,
 }
 
 // How many octets of a name are used, and how long it and its last label are then.
-#[derive(Drop)]
+#[derive(Clone, Copy)]
 struct NameRun {
     used: usize,
     length: u16,

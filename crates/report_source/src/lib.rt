@@ -5,7 +5,7 @@ ghost use Rattle.report_source.specs.code.Sources.{limit, fits_kind, is_sound, r
 
 // What an octet says: 0 a digit more, 1 the address has ended, 2 a number has, 20 it is refused; the kind (0 either, 1 dotted, 2 of
 // groups), the open number (its digits, and its value to base 10 and to base 16), and the number that has ended.
-#[derive(Drop)]
+#[derive(Clone, Copy)]
 pub struct SourceTurn {
     pub says: u8,
     pub kind: u8,

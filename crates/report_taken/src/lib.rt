@@ -9,7 +9,7 @@ const LARGEST: u64 = 18446744073709551615;
 const OUTSIDE: u8 = 20;
 
 // Whether a row is handed out, and the state after an octet.
-#[derive(Drop)]
+#[derive(Clone, Copy)]
 pub struct Taken {
     pub gives: bool,
     pub state: ReaderState,

@@ -4,7 +4,7 @@
 // What is gathered of a verdict. The last two are places in the lists handed in beside the rows: of the author domain, and of the
 // set of identifiers. What is spare is neither matched nor read.
 #[repr(C)]
-#[derive(Drop)]
+#[derive(Clone, Copy)]
 pub struct Seen {
     pub source: [u8; 16],
     pub disposition: u8,
@@ -17,7 +17,7 @@ pub struct Seen {
 
 // A row of a day's list: what was seen, and how often.
 #[repr(C)]
-#[derive(Drop)]
+#[derive(Clone, Copy)]
 pub struct Row {
     pub seen: Seen,
     pub count: u32,
@@ -25,7 +25,7 @@ pub struct Row {
 
 // What a verdict says to a day's list: result and disposition by their numbers, and whether each method aligned.
 #[repr(C)]
-#[derive(Drop)]
+#[derive(Clone, Copy)]
 pub struct Finding {
     pub result: u8,
     pub disposition: u8,
@@ -35,7 +35,7 @@ pub struct Finding {
 
 // What is entered: where the message came from, what was found, and the places of its author domain and of its set of identifiers.
 #[repr(C)]
-#[derive(Drop)]
+#[derive(Clone, Copy)]
 pub struct Entry {
     pub source: [u8; 16],
     pub finding: Finding,

@@ -7,7 +7,7 @@ use rows::Row;
 
 // The rows of a list one after the other, and how many they are.
 #[repr(C)]
-#[derive(Drop)]
+#[derive(Clone, Copy)]
 pub struct Gathered {
     pub count: usize,
     pub octets: [u8; 8192],

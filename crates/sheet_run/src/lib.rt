@@ -29,7 +29,7 @@ fn converse(e: Evaluation, records: usize, sheet: &[u8], lines: &mut [u8]) -> us
 }
 
 // A sheet's beginning: how many records it has, the evaluation of its message, and whether that is accepted.
-#[derive(Drop)]
+#[derive(Clone, Copy)]
 struct Begun {
     records: usize,
     evaluation: Evaluation,

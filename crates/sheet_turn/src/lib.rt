@@ -8,7 +8,7 @@ use evaluation::{Acceptance, Evaluation, Step};
 use octets::Written;
 
 // What a turn of next step and answer leaves: the evaluation, where the lines end, and whether it was the last.
-#[derive(Drop)]
+#[derive(Clone, Copy)]
 pub struct Turn {
     pub evaluation: Evaluation,
     pub end: usize,

@@ -4,7 +4,7 @@ ghost use Rattle.octets.specs.Octets.{between, is_letter, is_digit, is_blank};
 ghost use Rattle.text_class.specs.code.Classes.{in_class};
 
 // A class of octets.
-#[derive(Drop)]
+#[derive(Clone, Copy)]
 pub enum Class {
     // space and tab
     Blank,

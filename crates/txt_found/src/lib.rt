@@ -6,7 +6,7 @@ use policy::{Reading, Settings};
 use txt::Reply;
 
 // The policy records among texts.
-#[derive(Drop)]
+#[derive(Clone, Copy)]
 pub enum Found {
     Nothing,
     One(Settings),

@@ -9,7 +9,7 @@ const ANSWER_OCTETS: usize = 4096;
 const ANSWER_RECORDS: usize = 16;
 
 // What stands at the front of an answer: a record, with the length of its RDATA, or none.
-#[derive(Drop)]
+#[derive(Clone, Copy)]
 pub enum Front {
     Record(usize),
     Unreadable,

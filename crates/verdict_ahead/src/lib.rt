@@ -12,7 +12,7 @@ use walk_progress::Stop;
 
 // What is ahead of an evaluation: a target without an answer, by its walk and place; the verdict that judges no identifier;
 // or the one by the alignments.
-#[derive(Drop)]
+#[derive(Clone, Copy)]
 pub enum Ahead {
     Target {
         walk: usize,
@@ -27,7 +27,7 @@ pub enum Ahead {
 }
 
 // What an evaluation waits for: nothing, or the answer at a target, by its walk and place.
-#[derive(Drop)]
+#[derive(Clone, Copy)]
 pub enum Waiting {
     Nothing,
     For { walk: usize, place: Octet },

@@ -7,7 +7,7 @@ use walk_stop::KeptStop;
 
 // The applied record where its settings are in force: where its domain begins in the author domain, the settings, and the
 // policy that they give.
-#[derive(Drop)]
+#[derive(Clone, Copy)]
 pub struct Ruling {
     pub begin: Octet,
     pub settings: Settings,
@@ -16,7 +16,7 @@ pub struct Ruling {
 
 // Where an evaluation stands: at the author's own name; on the author's walk, to find a record or to complete it; on an
 // identifier's walk; or at the verdict, without a record that applies, with one that cannot be used, or by the alignments.
-#[derive(Drop)]
+#[derive(Clone, Copy)]
 pub enum Place {
     OwnName,
     Author(Stop),
@@ -36,7 +36,7 @@ pub enum Place {
 }
 
 // Which place it is.
-#[derive(Drop)]
+#[derive(Clone, Copy)]
 pub enum PlaceKind {
     OwnName,
     Author,
@@ -50,7 +50,7 @@ pub enum PlaceKind {
 
 // An applied record as it is kept, its settings and policy as numbers.
 #[repr(C)]
-#[derive(Drop)]
+#[derive(Clone, Copy)]
 pub struct KeptRuling {
     pub begin: Octet,
     pub settings: usize,
@@ -58,7 +58,7 @@ pub struct KeptRuling {
 }
 
 // A place as an evaluation keeps it. What its kind of place does not have is not read.
-#[derive(Drop)]
+#[derive(Clone, Copy)]
 pub struct Position {
     pub kind: PlaceKind,
     pub ruling: KeptRuling,

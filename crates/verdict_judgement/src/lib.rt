@@ -3,7 +3,7 @@ use domain::Octet;
 use verdict::{AppliedPolicy, Disposition, Existence, Result};
 
 // What is stored of a message beside its domains and their numbers.
-#[derive(Drop)]
+#[derive(Clone, Copy)]
 pub struct Terms {
     pub existence: Existence,
     pub support: bool,
@@ -12,7 +12,7 @@ pub struct Terms {
 
 // A verdict in numbers: where the applied record's domain begins in the author domain (its end where there is none), and the
 // alignments as digits to base 4, the first identifier's lowest.
-#[derive(Drop)]
+#[derive(Clone, Copy)]
 pub struct Judgement {
     pub result: Result,
     pub begin: Octet,
@@ -22,7 +22,7 @@ pub struct Judgement {
 }
 
 // Where an evaluation stands: at a target without an answer, by its walk and place, or at the verdict.
-#[derive(Drop)]
+#[derive(Clone, Copy)]
 pub enum Judged {
     Missing { walk: usize, place: Octet },
     Done(Judgement),

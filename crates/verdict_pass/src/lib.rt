@@ -13,7 +13,7 @@ use policy::Settings;
 use walk_progress::{Reach, Stop};
 
 // What comparing makes of an identifier: its walk stops, or it is passed with the number to be stored.
-#[derive(Drop)]
+#[derive(Clone, Copy)]
 pub enum Passing {
     Stops(Stop),
     Passes(u16),

@@ -7,7 +7,7 @@ use domain::Octet;
 use txt::Reply;
 
 // What is known of a target.
-#[derive(Drop)]
+#[derive(Clone, Copy)]
 pub enum Looked {
     Missing,
     Known(Reply),

@@ -4,14 +4,14 @@ use domain_labels::Target;
 use policy::Settings;
 
 // The record that applies by a walk: where its domain begins, and what it sets.
-#[derive(Drop)]
+#[derive(Clone, Copy)]
 pub enum Applicable {
     Nothing,
     Record { begin: Octet, settings: Settings },
 }
 
 // What a walk without an error gives: where the organizational domain begins, and the record that applies.
-#[derive(Drop)]
+#[derive(Clone, Copy)]
 pub struct Organization {
     pub begin: Octet,
     pub applicable: Applicable,
@@ -19,7 +19,7 @@ pub struct Organization {
 
 // Where an open walk stops: the last record found so far, the target whose answer it lacks, and how many targets come
 // after it.
-#[derive(Drop)]
+#[derive(Clone, Copy)]
 pub struct Stop {
     pub last: Applicable,
     pub target: Target,
@@ -27,7 +27,7 @@ pub struct Stop {
 }
 
 // How far a walk goes over the answers taken: to a target without one, to an error, or to its end.
-#[derive(Drop)]
+#[derive(Clone, Copy)]
 pub enum Reach {
     Stops(Stop),
     Failed,
@@ -35,7 +35,7 @@ pub enum Reach {
 }
 
 // What a reply makes of a walk: it is over, or goes on with the last record found.
-#[derive(Drop)]
+#[derive(Clone, Copy)]
 pub enum Turned {
     Over(Reach),
     On(Applicable),

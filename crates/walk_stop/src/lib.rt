@@ -9,7 +9,7 @@ use walk_progress::{Applicable, Stop};
 // Whether a record was found so far (0 is no), where that one's domain begins, its settings as a number, the target that
 // lacks an answer, and how many targets come after it.
 #[repr(C)]
-#[derive(Drop)]
+#[derive(Clone, Copy)]
 pub struct KeptStop {
     pub found: u8,
     pub begin: Octet,

@@ -1,0 +1,8 @@
+-- `text_parts::part` meets its contract.
+use Rattle.octets.proofs.PartLaws.{clipped_part}
+use Rattle.text_parts.proofs.part.Goals as goal
+
+pub returns : goal.returns
+returns c =
+    let a = c.args in
+    clipped_part a.s.now a.from a.end c.smaller-begin.result c.smaller-stop.result c.smaller-stop.ensures c.smaller-begin.ensures

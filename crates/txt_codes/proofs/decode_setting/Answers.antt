@@ -1,0 +1,27 @@
+-- `txt_codes::decode_setting` meets its contract.
+use borrow.Author.Tests.{ne_eqb}
+use Rattle.txt_codes.specs.code.Codes.{setting_of}
+use Rattle.txt_codes.proofs.decode_setting.Goals as goal
+
+pub returns-in-0 : goal.returns-in-0
+unfolding setting_of
+returns-in-0 c = rw c.in-0.is
+
+pub returns-in-1 : goal.returns-in-1
+unfolding setting_of
+returns-in-1 c = rw c.in-1.is
+
+pub returns-in-2 : goal.returns-in-2
+unfolding setting_of
+returns-in-2 c = rw c.in-2.is
+
+pub returns-in-3 : goal.returns-in-3
+unfolding setting_of
+returns-in-3 c = rw c.in-3.is
+
+pub returns-in_default : goal.returns-in_default
+unfolding setting_of
+returns-in_default c =
+    let n = c.args.n in
+    let no = c.in_default.in_default-own.rest in
+    rw (ne_eqb n 0 no.0.0.0.1, ne_eqb n 1 no.0.0.1, ne_eqb n 2 no.0.1, ne_eqb n 3 no.1)
