@@ -6,7 +6,7 @@ use mathlib.Core.Option.{some as just}
 use Prim.Native.Nat.{ℕ, suc, ◌+◌, ◌-◌, ◌<◌}
 use Prim.Native.String.{String}
 use native.Mathlib.Omega.{arith}
-use lib.Dec.{T}
+use lib.Dec.{T, eqb}
 use lib.ListN.{length}
 use borrow.Author.Tests.{not-true}
 use Rattle.octets.specs.Octets.{Octets, octets, if◌then◌else◌, is_empty, all, any, one_of, same, between, is_letter, lower, split, after, is_blank, trim_end, trim}
@@ -99,7 +99,7 @@ module _ (n v : Octets) (gn : Name n) (gv : Value v) (some : is_empty v ≡ fals
   -- no `;` in it
   part_whole : one_of (tag_part n v) 59 ≡ false
   unfolding one_of tag_part any
-  part_whole = rw (any_append, any_append, gn.value.no_mark, gv.no_mark)
+  part_whole = rw (any_append (eqb 59) (n ++ (61 ∷ [])) v, any_append (eqb 59) n (61 ∷ []), gn.value.no_mark, gv.no_mark)
 
 -- ------------------------------------------------------------------ all tags
 

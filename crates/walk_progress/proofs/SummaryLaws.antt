@@ -62,7 +62,9 @@ module _ (start : Domain) where
       -- it does not matter where the organizational domain is shorter
       forgotten : length (organizational start (f ∷ fs)) < length g.domain → summary start (g ∷ f ∷ fs) ≡ summary start (f ∷ fs)
       unfolding summary found_at
-      forgotten h = rw (organization_past, no_suffix (f ∷ fs), same_uneven g.domain (organizational start (f ∷ fs)) (omega arith))
+      forgotten h =
+          ap (λ (o : Domain). record { organization = o; applicable = or_found (found_at o (g ∷ f ∷ fs)) (found_suffix (g ∷ f ∷ fs)) }) organization_past
+          ∙ rw (no_suffix (f ∷ fs), same_uneven g.domain (organizational start (f ∷ fs)) (omega arith))
 
   -- ---------------------------------------------------------------- the last record
 

@@ -6,4 +6,4 @@ use Rattle.octets_pieces.proofs.put.Goals as goal
 pub returns : goal.returns
 returns c =
     let a = c.args in
-    puts a.text.now a.out.now a.at (omega arith) c.append.ensures c.wrapping_add_usize.ensures
+    puts a.text.now a.out.now a.at (omega arith) c.append.ensures c.wrapping_add_usize.ensures.value

@@ -8,24 +8,24 @@ use Rattle.walk.specs.Walk.{organizational_domain}
 
 -- while a walk is open, or after an error in it, nothing; else where the organizational domain begins in the walk's own
 pub data Stored : Type 0 where
-  still_Open failed : Stored
+  still_open failed : Stored
   from : (place : ℕ) → Stored
 
 -- the organizational domain that is stored
 unfoldable pub stored_domain : Domain → Stored → Option Domain
-stored_domain d still_Open = nothing
+stored_domain d still_open = nothing
 stored_domain d failed = nothing
 stored_domain d (from place) = just (drop place d)
 
 -- the number that says it
 unfoldable pub number_in : Stored → ℕ
-number_in still_Open = 0
+number_in still_open = 0
 number_in failed = 1
 number_in (from place) = place + 2
 
 -- what is to be stored, by where the walk worked out afresh stands
 unfoldable pub stored_by : Domain → Standing (Option Domain) → Stored
-stored_by d (needs n) = still_Open
+stored_by d (needs n) = still_open
 stored_by d (has nothing) = failed
 stored_by d (has (just o)) = from (begin_of o d)
 

@@ -1,0 +1,8 @@
+-- `rows_match::emptied` meets its contract.
+use Rattle.rows.specs.Rows.{with_count}
+use borrow.Author.Rules.{rules}
+use Rattle.rows_match.proofs.emptied.Goals as goal
+
+pub returns : goal.returns
+unfolding with_count
+returns c = search rules

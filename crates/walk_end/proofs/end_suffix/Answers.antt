@@ -1,0 +1,24 @@
+-- `walk_end::end_suffix` meets its contract.
+use mathlib.Core.Path.{ap, ◌∙◌}
+use mathlib.Core.Option.{some as just}
+use Rattle.walk_progress.specs.code.Summary.{Summary, found_in, summary_in}
+use Rattle.walk_progress.specs.code.Reaching.{over}
+use Rattle.walk_progress.specs.code.Stops.{reached_in}
+use Rattle.walk_end.proofs.EndLaws.{suffix_at_start, suffix_above}
+use Rattle.walk_end.proofs.end_suffix.Goals as goal
+
+pub returns-then-same_end : goal.returns-then-same_end
+unfolding found_in
+returns-then-same_end c =
+    let a = c.args in
+    let test = c.same_end in
+    c.end_at.ensures a.d.now
+    ∙ ap (λ (x : Summary). over (just x)) (suffix_at_start a.d.now a.at.begin.0 a.at.wider.0 (found_in a.d.now a.last) a.settings test.result test.ensures c.if-same_end.true)
+
+pub returns : goal.returns
+unfolding found_in reached_in summary_in
+returns c =
+        let a = c.args in
+    let test = c.same_end in
+    ap (λ (x : Summary). over (just x))
+    (suffix_above a.d.now a.at.begin.0 a.at.wider.0 (found_in a.d.now a.last) a.settings test.result test.ensures c.if-same_end.false _ c.choose.ensures)
