@@ -62,8 +62,8 @@ fn is_stored(
     count: usize,
     at: usize,
 ) -> bool
-    requires fact_1 { count ≤ 1024 }
-    requires fact_2 { Keyed text.now keys.now places.now count }
+    requires few { count ≤ 1024 }
+    requires keyed { Keyed text.now keys.now places.now count }
     ensures { result ≡ is_stored text.now places.now count (name_at text.now at) }
 {
     let name = name_at(text, at);

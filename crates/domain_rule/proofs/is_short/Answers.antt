@@ -1,6 +1,5 @@
 -- `domain_rule::is_short` meets its contract. The loop's invariant: if no run was long so far, the labels from `i` on are short, the first of `run` octets.
 use mathlib.Core.Path.{◌≡◌, refl}
-use mathlib.Core.Logic.{⊎_elim}
 use Prim.Native.Nat.{◌-◌}
 use native.Mathlib.Omega.{arith}
 use borrow.Author.Tests.{eq-eqb, ne_eqb, eqb-true}
@@ -8,6 +7,7 @@ use lib.ListN.{drop}
 use lib.Seq.{drop-length}
 use Rattle.domain_rule.proofs.PlainLaws.{short_end, short_dot, short_other, short_whole, short_text, drop_before}
 use Rattle.domain_rule.proofs.is_short.Goals as goal
+use Rattle.domain_rule.proofs.is_short.Goals.{then-s-i-eq46, else-s-i-eq46}
 
 pub returns-then-s-le63 : goal.returns-then-s-le63
 returns-then-s-le63 c = λ e. short_text c.args.s.now c.if-s-le63.true
@@ -18,31 +18,31 @@ loop-i-init c =
     (omega arith, omega arith, omega arith, λ e. (omega arith, rw (drop-length s) (short_end 0 refl)))
 
 pub overflow_add-over : goal.overflow_add-over
-overflow_add-over c = ⊎_elim (λ w. omega (arith, w.1, c.requires)) (λ w. omega (arith, w.1, c.requires)) c.if-s-i-eq46.branch
+overflow_add-over c = elim c.if-s-i-eq46.branch [ then-s-i-eq46 w ↦ omega (arith, c.requires) | else-s-i-eq46 w ↦ omega (arith, c.requires) ]
 
 pub loop-i-preserved : goal.loop-i-preserved
 loop-i-preserved c =
     let m = c.loop-i in
     let s = c.args.s.now in
     let size = c.requires in
-    ⊎_elim
-    (λ w. rw w.1 (
+    elim c.if-s-i-eq46.branch [
+    then-s-i-eq46 w ↦ rw w.run-is (
       omega arith,
       omega arith,
       omega arith,
       λ e.
           let p = m.invariant.3 (omega arith) in
-          (omega arith, rw (drop_before s m.i (omega arith) (omega arith)) (short_dot (drop m.i s) m.run p.1 p.0 _ (eq-eqb _ _ w.0.taken))),
-    ))
-    (λ w. rw w.1 (
+          (omega arith, rw (drop_before s m.i (omega arith) (omega arith)) (short_dot (drop m.i s) m.run p.1 p.0 _ (eq-eqb _ _ w.if-s-i-eq46.true))),
+    )
+    | else-s-i-eq46 w ↦ rw w.run-is (
       omega arith,
       omega arith,
       omega (arith, size),
       λ e.
           let p = m.invariant.3 (omega arith) in
-          (omega arith, rw (drop_before s m.i (omega arith) (omega arith)) (short_other (drop m.i s) m.run p.1 _ (ne_eqb _ _ w.0.left))),
-    ))
-    c.if-s-i-eq46.branch
+          (omega arith, rw (drop_before s m.i (omega arith) (omega arith)) (short_other (drop m.i s) m.run p.1 _ (ne_eqb _ _ w.if-s-i-eq46.false))),
+    )
+    ]
 
 pub returns : goal.returns
 returns c = λ e.

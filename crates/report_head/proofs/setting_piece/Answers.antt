@@ -1,10 +1,11 @@
 -- `report_head::setting_piece` meets its contract.
+use Rattle.std.proofs.Common.{ap, not}
 use Rattle.report_head.specs.code.Words.{setting_piece}
 use Rattle.report_head.proofs.HeadLaws.{not_usable}
 use Rattle.report_head.proofs.setting_piece.Goals as goal
 
 pub returns-then-not-usable : goal.returns-then-not-usable
-returns-then-not-usable c = not_usable c.args.usable c.args.s c.if-not-usable.true
+returns-then-not-usable c = not_usable c.args.usable c.args.s (ap not c.if-not-usable.true)
 
 pub returns-in-None : goal.returns-in-None
 unfolding setting_piece
