@@ -15,7 +15,9 @@ import re
 import sys
 
 WORD = re.compile(r"[^\s(){}.;,@\"«»\[\]⟦⟧|]+")
-HYPHENED = re.compile(r"[A-Za-zα-ωΑ-Ω_][\w'′]*(?:-[\w'′]+)+")
+HYPHENED = re.compile(r"◌?[A-Za-zα-ωΑ-Ω_][\w'′]*(?:-[\w'′]+)+◌?")
+# A name of a library that is written with its module stays.
+LIBRARY_PATH = re.compile(r"(?<![\w.])(?:mathlib|native|lib|borrow|types|denote|mir|Prim)(?:\.[\w-]+)+\.$")
 USE = re.compile(r"\b(?:ghost )?use ([\w.·]+?)(?:\.\{([^}]*)\}|)(?=[\s;]|$)", re.S)
 CLAUSE = re.compile(r"\b(?:requires|ensures)\s*\*?\s*(?:\w+\s*)?\{|\bghost\s+(?:\w+\s*:\s*)?\{|\bghost\s+\w+\s*(?::|=)\s*\{|ghost use [^;]*;")
 QUIET = re.compile(r'"(?:[^"\\\n]|\\.)*"|(?<![^\s(){}.;,])--[^\n]*')
@@ -78,7 +80,11 @@ def turned(word, keep, only):
 
 def turn(text, keep, only):
     def outside(part):
-        return WORD.sub(lambda m: turned(m.group(), keep, only), part)
+        def one(m):
+            stays = LIBRARY_PATH.search(part[max(0, m.start() - 80) : m.start()])
+            return m.group() if stays else turned(m.group(), keep, only)
+
+        return WORD.sub(one, part)
 
     out, at = [], 0
     for m in QUIET.finditer(text):

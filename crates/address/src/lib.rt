@@ -1,4 +1,6 @@
 // Whether an outside report address agreed to receive reports, and the book of such checks: definitions and theorems, no code.
+#![tactic(auto)]
+
 use policy::Bounds;
 
 // Whether a report address agreed: that is not known; a plain no; it is inside; it is confirmed, as it is or with the rua

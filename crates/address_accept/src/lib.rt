@@ -1,4 +1,6 @@
 // What an accepted answer makes of a check.
+#![tactic(auto)]
+
 ghost use Rattle.address_accept.specs.code.Accepting.{AcceptsInRoom, Settles};
 
 use address::Agreement;

@@ -1,4 +1,6 @@
 // An answer for the name now asked.
+#![tactic(auto)]
+
 ghost use Rattle.asking.specs.Asking.{given};
 ghost use Rattle.address.specs.Checks.{answer};
 ghost use Rattle.address_check.specs.Promises.{DoesCheck};

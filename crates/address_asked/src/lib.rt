@@ -1,4 +1,6 @@
 // What an answer is for: the name that a check waits for.
+#![tactic(auto)]
+
 ghost use Rattle.std.specs.Prelude.{◌≡◌, ◌&&◌, ◌||◌, not, ltb};
 ghost use Rattle.octets.specs.Octets.{is_set};
 ghost use Rattle.alignment_stored.specs.code.Stored.{slot};

@@ -1,4 +1,6 @@
 // The check of one report address, as calls hand it on: what it holds, what each call promises, and demand 3 of it.
+#![tactic(auto)]
+
 use address::Agreement;
 use domain::Octet;
 use octets::Refusal;

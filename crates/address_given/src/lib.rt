@@ -1,4 +1,6 @@
 // What the calls of a check give, as numbers for programs in other languages.
+#![tactic(auto)]
+
 ghost use Rattle.std.specs.Prelude.{◌≡◌};
 ghost use Rattle.octets.specs.Refusing.{refusal};
 ghost use Rattle.address_check.specs.declared.Check.{Check};

@@ -1,4 +1,6 @@
 // The names of a check: whether a name is one, and writing one.
+#![tactic(auto)]
+
 ghost use Rattle.std.specs.Prelude.{◌≡◌};
 ghost use Rattle.octets.specs.Octets.{same_text};
 ghost use Rattle.octets.specs.Lent.{Writes};

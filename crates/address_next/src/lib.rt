@@ -1,4 +1,6 @@
 // The next step of a check, and its result.
+#![tactic(auto)]
+
 ghost use Rattle.std.specs.Prelude.{◌≡◌, [], ◌+◌, min};
 ghost use Rattle.octets.specs.Octets.{if◌then◌else◌, is_set};
 ghost use Rattle.asking.specs.Asking.{given};

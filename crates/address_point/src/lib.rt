@@ -1,4 +1,6 @@
 // Each place where a check stands as plain numbers, and such a place read.
+#![tactic(auto)]
+
 ghost use Rattle.std.specs.Prelude.{◌≡◌, ◌||◌, not, ltb};
 ghost use Rattle.address.specs.Checks.{Pair};
 ghost use Rattle.walk_stop.specs.code.KeptStops.{stop_in};

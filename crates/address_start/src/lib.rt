@@ -1,4 +1,6 @@
 // The start of a check, and a refusal.
+#![tactic(auto)]
+
 ghost use Rattle.std.specs.Prelude.{◌≡◌, [], ◌≤◌, length};
 ghost use Rattle.octets.specs.Octets.{lower};
 ghost use Rattle.octets.specs.Refusing.{refusal};

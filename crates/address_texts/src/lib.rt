@@ -1,4 +1,6 @@
 // What an answer says at the confirming name, with its texts left in the scratch.
+#![tactic(auto)]
+
 ghost use Rattle.std.specs.Prelude.{◌≡◌, true, ◌≤◌, length};
 ghost use Rattle.octets.specs.Octets.{lower, if◌then◌else◌};
 ghost use Rattle.txt.specs.Answers.{answer_of, joined};

@@ -1,4 +1,6 @@
 // The two walks of a check, one after the other, and where the check then stands.
+#![tactic(auto)]
+
 ghost use Rattle.std.specs.Prelude.{◌≡◌, drop};
 ghost use Rattle.lookup.specs.Lookup.{Answers};
 ghost use Rattle.txt.specs.declared.Reply.{Reply};

@@ -1,4 +1,6 @@
 // What is settled of an identifier without a walk, and whether one needs a walk.
+#![tactic(auto)]
+
 ghost use Rattle.std.specs.Prelude.{◌≡◌, min};
 ghost use Rattle.octets.specs.Octets.{any};
 ghost use Rattle.alignment.specs.Alignments.{mode_of, settled, settled_alignment, must_walk};

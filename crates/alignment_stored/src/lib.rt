@@ -1,4 +1,6 @@
 // Identifiers as they are stored.
+#![tactic(auto)]
+
 ghost use Rattle.std.specs.Prelude.{◌≡◌, ◌≤◌};
 ghost use Rattle.alignment_stored.specs.code.Stored.{number_at, slot, kind_at, outcome_at};
 

@@ -1,1 +1,2 @@
 // Every claim, written out in one place: claims and their proof.
+#![tactic(auto)]

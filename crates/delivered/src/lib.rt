@@ -1,1 +1,2 @@
 // Every claim in one record, and its proof.
+#![tactic(auto)]

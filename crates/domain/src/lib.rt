@@ -1,4 +1,5 @@
 // Domains: the rule that each keeps, its labels, the targets of a walk, and the names asked.
+#![tactic(auto)]
 
 // A number of labels, counted from the right.
 #[repr(C)]

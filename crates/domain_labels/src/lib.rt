@@ -1,4 +1,6 @@
 // Where the labels of a domain begin, found in one pass; the targets of a walk by them, and whether a target can be asked.
+#![tactic(auto)]
+
 ghost use Rattle.std.specs.Prelude.{◌≡◌, min, length, drop};
 ghost use Rattle.domain.specs.Domain.{can_ask};
 ghost use Rattle.domain_labels.specs.code.Places.{target_by};

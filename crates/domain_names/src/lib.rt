@@ -1,4 +1,6 @@
 // The name asked at a target.
+#![tactic(auto)]
+
 ghost use Rattle.std.specs.Prelude.{◌≡◌, drop};
 ghost use Rattle.octets.specs.Octets.{same_text};
 ghost use Rattle.octets.specs.Lent.{Writes};

@@ -1,4 +1,6 @@
 // The domain rule.
+#![tactic(auto)]
+
 ghost use Rattle.std.specs.Prelude.{◌≡◌, true, not, ◌<◌, ◌≤◌, eqb, length};
 ghost use Rattle.octets.specs.Octets.{all, front};
 ghost use Rattle.domain.specs.Domain.{labels, good_label, is_domain, label_count};

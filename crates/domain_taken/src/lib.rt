@@ -1,4 +1,6 @@
 // A domain as it is taken.
+#![tactic(auto)]
+
 ghost use Rattle.std.specs.Prelude.{◌≡◌};
 ghost use Rattle.domain.specs.Domain.{without_dot};
 

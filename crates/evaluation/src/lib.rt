@@ -1,4 +1,6 @@
 // The evaluation of one message, as calls hand it on: what it holds, what each call promises, and demand 3.
+#![tactic(auto)]
+
 use domain::Octet;
 use octets::Refusal;
 use verdict_cursor::Position;

@@ -1,4 +1,6 @@
 // An accepted answer.
+#![tactic(auto)]
+
 ghost use Rattle.evaluation_keep.specs.code.Accepting.{AcceptsInRoom};
 
 use domain::Octet;

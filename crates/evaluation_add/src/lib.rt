@@ -1,4 +1,6 @@
 // The adding of one identifier.
+#![tactic(auto)]
+
 ghost use Rattle.std.specs.Prelude.{◌≡◌, [], ◌<◌, ◌≤◌, min, length};
 ghost use Rattle.octets.specs.Octets.{Octets, any, lower};
 ghost use Rattle.alignment_stored.specs.code.Stored.{kind_in, outcome_in, stored_identifiers};

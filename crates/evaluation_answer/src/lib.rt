@@ -1,4 +1,6 @@
 // An answer for the name now asked.
+#![tactic(auto)]
+
 ghost use Rattle.asking.specs.Asking.{given};
 ghost use Rattle.book.specs.Book.{answer};
 ghost use Rattle.evaluation.specs.Promises.{Does};

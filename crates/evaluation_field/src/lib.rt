@@ -1,4 +1,6 @@
 // The Identity-Alignment field of a verdict.
+#![tactic(auto)]
+
 ghost use Rattle.std.specs.Prelude.{◌≡◌};
 ghost use Rattle.octets.specs.Octets.{Octets};
 ghost use Rattle.octets.specs.Lent.{WritesIf};

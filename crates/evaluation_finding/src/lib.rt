@@ -1,4 +1,6 @@
 // What is entered in a day's rows of an evaluation that stands at its verdict.
+#![tactic(auto)]
+
 ghost use Rattle.std.specs.Prelude.{◌≡◌};
 ghost use Rattle.octets.specs.Octets.{Octets};
 ghost use Rattle.verdict_judgement.specs.code.Judging.{stored_message};

@@ -1,4 +1,6 @@
 // Where the next step is.
+#![tactic(auto)]
+
 ghost use Rattle.evaluation_first.specs.code.Pointing.{Points};
 
 use evaluation::Evaluation;

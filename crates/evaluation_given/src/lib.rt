@@ -1,4 +1,6 @@
 // What calls give, as numbers for programs in other languages.
+#![tactic(auto)]
+
 ghost use Rattle.std.specs.Prelude.{◌≡◌};
 ghost use Rattle.evaluation_numbers.specs.Numbers.{policy_number, verdict_numbers, accepted_numbers, ask_numbers, judged_numbers, refused_numbers, acceptance_numbers, step_numbers, resulting_numbers, field_numbers, found_numbers};
 

@@ -1,4 +1,6 @@
 // The name that an answer is for.
+#![tactic(auto)]
+
 ghost use Rattle.std.specs.Prelude.{◌≡◌, List, ◌&&◌, ℕ, ltb};
 ghost use Rattle.verdict_judgement.specs.code.Judging.{stored_message};
 ghost use Rattle.verdict_cursor.specs.code.Cursor.{stands, needed};

@@ -1,4 +1,6 @@
 // An evaluation as the numbers that are lent to programs in other languages, and back.
+#![tactic(auto)]
+
 ghost use Rattle.std.specs.Prelude.{◌≡◌};
 ghost use Rattle.evaluation_open.specs.code.Opening.{existence_in};
 ghost use Rattle.octets.specs.Octets.{is_set};

@@ -1,4 +1,6 @@
 // The two methods of a message, DKIM and SPF, from its stored numbers and the digits of its alignments.
+#![tactic(auto)]
+
 ghost use Rattle.std.specs.Prelude.{◌≡◌, ◌||◌, ◌≤◌, ◌+◌, min};
 ghost use Rattle.octets.specs.Octets.{Octets};
 ghost use Rattle.alignment_stored.specs.code.Stored.{stored_identifiers};

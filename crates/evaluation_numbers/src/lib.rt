@@ -1,4 +1,6 @@
 // What programs in other languages hand over and get: an evaluation and what its calls give, all of it numbers.
+#![tactic(auto)]
+
 use domain::{Labels, Octet};
 use domain_labels::Target;
 use octets::Refusal;

@@ -1,4 +1,6 @@
 // The opening of an evaluation: a message without identifiers.
+#![tactic(auto)]
+
 ghost use Rattle.std.specs.Prelude.{◌≡◌, [], ◌≤◌, length, replicate};
 ghost use Rattle.octets.specs.Octets.{lower};
 ghost use Rattle.book.specs.Start.{opening};
@@ -24,7 +26,7 @@ pub fn read_existence(n: u8) -> Existence
 // An evaluation that holds a message without identifiers, and nothing more: nothing is stored of its walks.
 fn hold(e: Evaluation, author: &[u8], existence: u8, support: bool) -> Evaluation
     requires { length author.now ≤ 253 }
-    ensures { Holds result (record { author = lower author.entry.now; existence = existence_in existence; support = support; identifiers = [] }) × (result.stored ≡ replicate 17 0) }
+    ensures { Holds result (record { author = lower author.now; existence = existence_in existence; support = support; identifiers = [] }) × (result.stored ≡ replicate 17 0) }
 {
     let terms = Terms {
         existence: read_existence(existence),

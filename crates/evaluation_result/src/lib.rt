@@ -1,4 +1,6 @@
 // The result.
+#![tactic(auto)]
+
 ghost use Rattle.std.specs.Prelude.{◌≡◌, min};
 ghost use Rattle.evaluation.specs.Promises.{DoesResult};
 

@@ -1,4 +1,6 @@
 // An evaluation that is not opened, a refusal, and the names and domains that one holds.
+#![tactic(auto)]
+
 ghost use Rattle.std.specs.Prelude.{◌≡◌, drop};
 ghost use Rattle.octets.specs.Octets.{lower};
 ghost use Rattle.octets.specs.Lent.{Writes};

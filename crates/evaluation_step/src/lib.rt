@@ -1,4 +1,6 @@
 // The next step.
+#![tactic(auto)]
+
 ghost use Rattle.evaluation.specs.Promises.{DoesNext};
 
 use evaluation::{Evaluation, Step, Stepped, Verdict};

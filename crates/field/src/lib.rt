@@ -1,4 +1,6 @@
 // The Identity-Alignment field as it is read.
+#![tactic(auto)]
+
 use octets::Refusal;
 
 // The methods that a field names; neither for `none`.

@@ -1,4 +1,6 @@
 // The blanks between the words of an Identity-Alignment field, octet by octet.
+#![tactic(auto)]
+
 ghost use Rattle.std.specs.Prelude.{◌≡◌};
 ghost use Rattle.field_states.specs.code.States.{closes, ninth, is_wrong, ends};
 ghost use Rattle.field_blanks.specs.code.Rows.{blanks_row, blanks_kind, after_space};

@@ -1,4 +1,6 @@
 // Between the words of an Identity-Alignment field: comments, commas and the first letters of words, octet by octet.
+#![tactic(auto)]
+
 ghost use Rattle.std.specs.Prelude.{◌≡◌, ◌||◌, false, ◌<◌, eqb};
 ghost use Rattle.octets.specs.Octets.{is_blank};
 ghost use Rattle.field_states.specs.code.States.{outside_comment, inside_comment, between_step, reader, ninth, turn};

@@ -1,4 +1,6 @@
 // Reading the Identity-Alignment field.
+#![tactic(auto)]
+
 ghost use Rattle.std.specs.Prelude.{◌≡◌, ◌-◌};
 ghost use Rattle.octets.specs.Refusing.{refusal};
 ghost use Rattle.field.specs.Numbers.{field_answer, field_read};

@@ -98,7 +98,7 @@ module _ (d s : Bool) where
       (append_none (place_before p 26 (begin_of_word 3 e) [] (word_begins 3 p e (λ q f. let k = j q f in omega (arith, k))) (nothing_before p))))))
     where
       append_none : NotBefore p (at_place 26 (begin_of_word 3 e) ++ []) → NotBefore p (at_place 26 (begin_of_word 3 e))
-      append_none k = subst (NotBefore p) (mathlib.Core.List.append_nil (at_place 26 (begin_of_word 3 e))) k
+      append_none k = subst (NotBefore p) (mathlib.Core.List.append-nil (at_place 26 (begin_of_word 3 e))) k
 
   pub judged_dkim : (p : ℕ) (a b e : Option ℕ) → ((q : ℕ) → a ≡ just q → suc p ≤ q) → ((q : ℕ) → b ≡ just q → suc p ≤ q) → ((q : ℕ) → e ≡ just q → suc p ≤ q)
       → judged a b (just (suc p)) e d s ≡ not_ok (refusal 26 (suc p - 4))
@@ -109,7 +109,7 @@ module _ (d s : Bool) where
       (append_none (place_before (suc p - 4) 26 (begin_of_word 3 e) [] (word_begins 3 (suc p - 4) e (λ q f. let k = j q f in omega (arith, k))) (nothing_before (suc p - 4)))))))
     where
       append_none : NotBefore (suc p - 4) (at_place 26 (begin_of_word 3 e) ++ []) → NotBefore (suc p - 4) (at_place 26 (begin_of_word 3 e))
-      append_none k = subst (NotBefore (suc p - 4)) (mathlib.Core.List.append_nil (at_place 26 (begin_of_word 3 e))) k
+      append_none k = subst (NotBefore (suc p - 4)) (mathlib.Core.List.append-nil (at_place 26 (begin_of_word 3 e))) k
 
   pub judged_spf : (p : ℕ) (a b c : Option ℕ) → ((q : ℕ) → a ≡ just q → suc p ≤ q) → ((q : ℕ) → b ≡ just q → suc p ≤ q) → ((q : ℕ) → c ≡ just q → suc p + 4 ≤ q)
       → judged a b c (just (suc p)) d s ≡ not_ok (refusal 26 (suc p - 3))

@@ -180,6 +180,6 @@ drop_next k t c w e = ap (λ j. drop j t) (add-one k) ∙ go k t e
   where
     go : (k : ℕ) (t : Octets) → drop k t ≡ c ∷ w → drop (suc k) t ≡ w
     go zero [] f = absurd (cons≢nil (sym f))
-    go zero (y ∷ t) f = mathlib.Core.List.tail_eq_of_cons_eq f
+    go zero (y ∷ t) f = mathlib.Core.List.tail-eq_of_cons-eq f
     go (suc k) [] f = absurd (cons≢nil (sym f))
     go (suc k) (y ∷ t) f = go k t f

@@ -41,8 +41,8 @@ no_further k t x e = go (lib.Dec.leb (length t) k) refl
     is_further Spelled.Whole = false
 
     go : (b : Bool) → lib.Dec.leb (length t) k ≡ b → k < length t
-    go true f = absurd (false≢true (ap is_further (sym (spell_over t k x (borrow.Author.Tests.leb_true (length t) k f)) ∙ e)))
-    go false f = borrow.Author.Tests.leb_false (length t) k f
+    go true f = absurd (false≢true (ap is_further (sym (spell_over t k x (borrow.Author.Tests.leb-true (length t) k f)) ∙ e)))
+    go false f = borrow.Author.Tests.leb-false (length t) k f
 
 word_length : (w : Word) → length (word_text w) ≤ 19
 unfolding word_text octets

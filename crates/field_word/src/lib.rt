@@ -1,4 +1,6 @@
 // The words of an Identity-Alignment field, octet by octet.
+#![tactic(auto)]
+
 ghost use Rattle.std.specs.Prelude.{◌≡◌, drop};
 ghost use Rattle.octets.specs.Octets.{lower_octet};
 ghost use Rattle.field_states.specs.code.States.{word_text, spelled, behind, reader, turn};

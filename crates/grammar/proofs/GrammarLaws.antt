@@ -9,7 +9,7 @@ use lib.Dec.{leb}
 use borrow.Author.Tests.{leb-true, le-leb}
 use Rattle.octets.specs.Octets.{Octets, between}
 use Rattle.grammar.specs.Grammar.{Grammar, none, empty, range, ◌then◌, ◌or◌, many, Each, Text}
-use Rattle.grammar.specs.code.Finding.{has_empty, has_text, ◌and-then◌, ◌or-else◌, following, shortest_text}
+use Rattle.grammar.specs.code.Finding.{has_empty, has_text, ◌and_then◌, ◌or_else◌, following, shortest_text}
 
 -- ------------------------------------------------------------------ lists
 
@@ -122,7 +122,7 @@ some_complete (many a) s t = refl
 -- ------------------------------------------------------------------ `then` and `or`, kept short
 
 and_then_sound : (a b : Grammar) (s : Octets) → Text (a and_then b) s → Text (a then b) s
-unfolding ◌and-then◌ Text
+unfolding ◌and_then◌ Text
 and_then_sound none b s t = absurd t
 and_then_sound empty b s t = ([], s, refl, refl, t)
 and_then_sound (range low high) b s t = t
@@ -131,7 +131,7 @@ and_then_sound (a or c) b s t = t
 and_then_sound (many a) b s t = t
 
 and_then_complete : (a b : Grammar) (s : Octets) → Text (a then b) s → Text (a and_then b) s
-unfolding ◌and-then◌ Text
+unfolding ◌and_then◌ Text
 and_then_complete none b s t = absurd t.3
 and_then_complete empty b s t = subst (Text b) (sym (t.2 ∙ ap (λ u. u ++ t.1) t.3)) t.4
 and_then_complete (range low high) b s t = t
@@ -140,7 +140,7 @@ and_then_complete (a or c) b s t = t
 and_then_complete (many a) b s t = t
 
 or_else_sound : (a b : Grammar) (s : Octets) → Text (a or_else b) s → Text a s ⊎ Text b s
-unfolding ◌or-else◌ Text
+unfolding ◌or_else◌ Text
 or_else_sound none b s t = inr t
 or_else_sound empty b s t = t
 or_else_sound (range low high) b s t = t
@@ -149,7 +149,7 @@ or_else_sound (a or c) b s t = t
 or_else_sound (many a) b s t = t
 
 or_else_left : (a b : Grammar) (s : Octets) → Text a s → Text (a or_else b) s
-unfolding ◌or-else◌ Text
+unfolding ◌or_else◌ Text
 or_else_left none b s t = absurd t
 or_else_left empty b s t = inl t
 or_else_left (range low high) b s t = inl t
@@ -158,7 +158,7 @@ or_else_left (a or c) b s t = inl t
 or_else_left (many a) b s t = inl t
 
 or_else_right : (a b : Grammar) (s : Octets) → Text b s → Text (a or_else b) s
-unfolding ◌or-else◌ Text
+unfolding ◌or_else◌ Text
 or_else_right none b s t = t
 or_else_right empty b s t = inr t
 or_else_right (range low high) b s t = inr t

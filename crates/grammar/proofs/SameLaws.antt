@@ -8,7 +8,7 @@ use Prim.Native.Nat.{ℕ, suc, ◌≤◌}
 use native.Mathlib.Omega.{arith}
 use Rattle.octets.specs.Octets.{Octets, is_nothing}
 use Rattle.grammar.specs.Grammar.{Grammar, none, empty, range, ◌then◌, ◌or◌, many, Each, Text}
-use Rattle.grammar.specs.code.Finding.{has_empty, has_text, ◌and-then◌, ◌or-else◌, following, fault_from, shortest_text_from}
+use Rattle.grammar.specs.code.Finding.{has_empty, has_text, ◌and_then◌, ◌or_else◌, following, fault_from, shortest_text_from}
 use Rattle.grammar.proofs.Claimed.{text_of_none}
 use Rattle.grammar.proofs.GrammarLaws.{empty_sound, empty_complete, some_sound, some_complete, following_sound, following_complete}
 
@@ -222,7 +222,7 @@ on_is : {x : ℕ} {a b : Grammar} → Same (following x a) b → On x a b
 on_is {x} {a} h = on_to (following_on x a) h
 
 and_then_same : (a b : Grammar) → Same (a and_then b) (a then b)
-unfolding ◌and-then◌
+unfolding ◌and_then◌
 and_then_same none b = same_sym (none_then b)
 and_then_same empty b = same_sym (empty_then b)
 and_then_same (range low high) b = same_refl _
@@ -231,7 +231,7 @@ and_then_same (a or c) b = same_refl _
 and_then_same (many a) b = same_refl _
 
 or_else_same : (a b : Grammar) → Same (a or_else b) (a or b)
-unfolding ◌or-else◌
+unfolding ◌or_else◌
 or_else_same none b = same_sym (none_or b)
 or_else_same empty b = same_refl _
 or_else_same (range low high) b = same_refl _
@@ -275,7 +275,7 @@ on_range x low high p q = record {
 }
   where
     tail : (y : ℕ) (s : Octets) → x ∷ s ≡ y ∷ [] → s ≡ []
-    tail y s e = mathlib.Core.List.tail_eq_of_cons_eq e
+    tail y s e = mathlib.Core.List.tail-eq_of_cons-eq e
 
 pub dead_range : (x low high : ℕ) → (low ≤ x → x ≤ high → ⊥) → Dead x (range low high)
 unfolding Text
@@ -319,7 +319,7 @@ following_same {b} h x = on_following (on_from h (following_on x b))
 pub fault_same : {a b : Grammar} → Same a b → (at : ℕ) (s : Octets) → fault_from at a s ≡ fault_from at b s
 unfolding fault_from
 fault_same h at [] = rw (same_empty h)
-fault_same {a} {b} h at (x ∷ s) = go (has_text (following x b)) refl (fault_same (following_same h x) (suc at) s)
+fault_same {a = a} {b = b} h at (x ∷ s) = go (has_text (following x b)) refl (fault_same {a = following x a} {b = following x b} (following_same h x) (suc at) s)
   where
     go : (c : Bool) → has_text (following x b) ≡ c → fault_from (suc at) (following x a) s ≡ fault_from (suc at) (following x b) s → fault_from at a (x ∷ s) ≡ fault_from at b (x ∷ s)
     go true e k = rw (same_has (following_same h x), e, fault_from) k
@@ -328,7 +328,7 @@ fault_same {a} {b} h at (x ∷ s) = go (has_text (following x b)) refl (fault_sa
 pub first_same : {a b : Grammar} → Same a b → (at : ℕ) (s : Octets) → shortest_text_from at a s ≡ shortest_text_from at b s
 unfolding shortest_text_from
 first_same h at [] = rw (same_empty h)
-first_same {a} {b} h at (x ∷ s) = go (has_empty b) refl (first_same (following_same h x) (suc at) s)
+first_same {a = a} {b = b} h at (x ∷ s) = go (has_empty b) refl (first_same {a = following x a} {b = following x b} (following_same h x) (suc at) s)
   where
     go : (c : Bool) → has_empty b ≡ c → shortest_text_from (suc at) (following x a) s ≡ shortest_text_from (suc at) (following x b) s → shortest_text_from at a (x ∷ s) ≡ shortest_text_from at b (x ∷ s)
     go true e k = rw (same_empty h, e, shortest_text_from)

@@ -1,4 +1,6 @@
 // Texts and numbers from a place of lent memory on.
+#![tactic(auto)]
+
 ghost use Rattle.std.specs.Prelude.{◌≡◌, ◌<◌, ◌^◌, length};
 ghost use Rattle.octets.specs.Octets.{lower};
 ghost use Rattle.octets.specs.Decimal.{decimal};

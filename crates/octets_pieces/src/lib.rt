@@ -1,4 +1,6 @@
 // Texts that are put together in lent memory: constant pieces of one table by their numbers, and any other text or number between them.
+#![tactic(auto)]
+
 ghost use Rattle.std.specs.Prelude.{◌≡◌, ◌++◌};
 ghost use Rattle.octets.specs.Octets.{lower};
 ghost use Rattle.octets.specs.Decimal.{decimal};

@@ -1,4 +1,5 @@
 // A policy record: what it sets.
+#![tactic(auto)]
 
 // What a domain owner asks for.
 #[derive(Clone, Copy)]

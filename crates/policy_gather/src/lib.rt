@@ -1,4 +1,6 @@
 // The tags of a policy text, gathered in one pass.
+#![tactic(auto)]
+
 ghost use Rattle.std.specs.Prelude.{false, ◌≡◌};
 ghost use Rattle.policy_gather.specs.code.Gathering.{Knows, Gathers};
 

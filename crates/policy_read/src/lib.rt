@@ -1,4 +1,6 @@
 // A policy record's text: its settings, and its rua text.
+#![tactic(auto)]
+
 ghost use Rattle.std.specs.Prelude.{◌≡◌, ◌<◌, drop, take};
 ghost use Rattle.policy.specs.Records.{read_policy, rua_begin, rua_length, rua_bounds};
 ghost use Rattle.policy_read.specs.code.Values.{value_at, policy_setting, settings_from};

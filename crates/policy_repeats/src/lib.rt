@@ -1,4 +1,6 @@
 // Whether a tag name that is not known occurs twice.
+#![tactic(auto)]
+
 ghost use Rattle.std.specs.Prelude.{◌≡◌, ◌<◌, ◌≤◌, length, drop};
 ghost use Rattle.octets.specs.Octets.{any, lower, split};
 ghost use Rattle.policy.specs.Tags.{repeats};

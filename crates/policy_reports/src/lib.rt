@@ -1,4 +1,6 @@
 // The report addresses of a rua text.
+#![tactic(auto)]
+
 ghost use Rattle.std.specs.Prelude.{◌≡◌};
 ghost use Rattle.policy.specs.Reports.{hex_digit, uri_octet, uri_octets, after_scheme, valid_entry, has_valid_entry};
 ghost use Rattle.policy_reports.specs.code.UriSteps.{hex_pair, uri_step};

@@ -1,4 +1,6 @@
 // The tags of a policy text.
+#![tactic(auto)]
+
 ghost use Rattle.std.specs.Prelude.{◌≡◌};
 ghost use Rattle.octets.specs.Octets.{same};
 ghost use Rattle.policy.specs.Tags.{is_version};

@@ -1,4 +1,6 @@
 // The small tables: the step down of a policy, and the words of a policy record, as it is read and as it is written.
+#![tactic(auto)]
+
 ghost use Rattle.std.specs.Prelude.{false, ◌≡◌};
 ghost use Rattle.octets.specs.Octets.{lower};
 ghost use Rattle.policy.specs.Records.{word, policy_words, mode_words, psd_words, testing_words};

@@ -1,5 +1,7 @@
 // A policy record written from its settings, and what programs in other languages hand over and get.
 // Settings by numbers. p, sp and np: none 0, quarantine 1, reject 2, absent 3; adkim and aspf: r 0, s 1; psd: u 0, y 1, n 2; t: n 0, y 1.
+#![tactic(auto)]
+
 #[repr(C)]
 #[derive(Clone, Copy)]
 pub struct RecordNumbers {

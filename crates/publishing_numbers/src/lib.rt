@@ -1,4 +1,6 @@
 // Settings and answers by numbers, as programs in other languages hand them over and get them.
+#![tactic(auto)]
+
 ghost use Rattle.std.specs.Prelude.{◌≡◌};
 ghost use Rattle.publishing.specs.Numbers.{setting_in, mode_in, psd_in, testing_in, settings_in, setting_number, mode_number, psd_number, testing_number, numbers_of, read_numbers};
 

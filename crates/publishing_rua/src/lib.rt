@@ -1,4 +1,6 @@
 // The rua texts that a policy record may be written with.
+#![tactic(auto)]
+
 ghost use Rattle.std.specs.Prelude.{◌≡◌};
 ghost use Rattle.octets.specs.Octets.{all, split, trim};
 ghost use Rattle.policy.specs.Reports.{valid_entry};

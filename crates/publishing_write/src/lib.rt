@@ -1,4 +1,6 @@
 // A policy record written from its settings and a rua text.
+#![tactic(auto)]
+
 ghost use Rattle.std.specs.Prelude.{◌≡◌};
 ghost use Rattle.octets.specs.Refusing.{refusal};
 ghost use Rattle.octets.specs.Lent.{WritesIf};

@@ -34,12 +34,12 @@ never : {rs : List Entry} (n : ℕ) (phase : Phase) (seen : List Octets) (place 
     → entries_from n true phase seen place t ≡ ok rs → ⊥
 never zero phase seen place t h p q e = omega arith
 never (suc n) phase seen place [] h p q e = omega arith
-never {rs} (suc n) phase seen place (x ∷ xs) h p q e =
+never {rs = rs} (suc n) phase seen place (x ∷ xs) h p q e =
     let s = step_ok n true phase seen place (x ∷ xs) rs (omega arith) e in
     let w = ltb-false 65536 (place + 4 + size_of (x ∷ xs)) s.enters.within in
     let f = s.enters.fits in
     let l = after_length (x ∷ xs) in
-    never n s.next (seen ++ answered_name s.entry) (place + 4 + size_of (x ∷ xs)) (after_record (x ∷ xs)) (omega arith) (omega arith) (omega arith) s.goes_on
+    never {rs = s.others} n s.next (seen ++ answered_name s.entry) (place + 4 + size_of (x ∷ xs)) (after_record (x ∷ xs)) (omega arith) (omega arith) (omega arith) s.goes_on
 
 within_limit : (sheet : Octets) (rs : List Entry) → entries sheet ≡ ok rs → length sheet ≤ 65536
 within_limit sheet rs e = go (dec_le (length sheet) 65536)

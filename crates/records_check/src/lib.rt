@@ -1,4 +1,6 @@
 // Refusal 8: the first wrong record of a sheet.
+#![tactic(auto)]
+
 ghost use Rattle.std.specs.Prelude.{◌≡◌, ◌≤◌, length};
 ghost use Rattle.std.proofs.Math.Option.{Option, some as just};
 ghost use Rattle.octets.specs.Refusing.{refusal, or_refuse};

@@ -1,4 +1,6 @@
 // The fields of a sheet's record.
+#![tactic(auto)]
+
 ghost use Rattle.std.specs.Prelude.{◌≡◌, ◌≤◌, get_or};
 ghost use Rattle.octets.specs.Framing.{size_of, body_of, after_record};
 ghost use Rattle.records_fields.specs.code.Layout.{name_in, status_in, bytes_in};

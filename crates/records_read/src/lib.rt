@@ -1,4 +1,6 @@
 // What a sheet's record is, by its mark and its body.
+#![tactic(auto)]
+
 ghost use Rattle.std.specs.Prelude.{◌≡◌, not};
 ghost use Rattle.octets.specs.Octets.{octets, is_nothing};
 ghost use Rattle.records.specs.Sheet.{entry_in, entry_of};

@@ -1,4 +1,6 @@
 // One octet of a source address of an aggregate report: whether it goes on the open number, or ends it.
+#![tactic(auto)]
+
 ghost use Rattle.std.specs.Prelude.{◌≡◌, ◌&&◌, eqb, ltb};
 ghost use Rattle.report_form.specs.code.ReportReading.{can_be_dotted, can_be_grouped, lower_hex, digit_value, is_last};
 ghost use Rattle.report_address.specs.code.Addresses.{kind_of, only_zero_in, dotted_on, grouped_on, ends_in};

@@ -1,1 +1,2 @@
 // A report has no more octets than 64 bits count: laws.
+#![tactic(auto)]

@@ -1,4 +1,6 @@
 // What refuses an aggregate report: 18, 28, 19 and 11, in this order.
+#![tactic(auto)]
+
 ghost use Rattle.std.specs.Prelude.{◌≡◌};
 ghost use Rattle.report.specs.Report.{good_texts, good_file};
 ghost use Rattle.rows_gather.specs.code.Gathered.{rows_of};
@@ -52,7 +54,7 @@ pub fn find_fault<'a>(
     begin: u64,
     end: u64,
 ) -> u8
-    ensures { result ≡ first_fault domain.now (record { authors = authors.entry.now; sets = sets.now }) (rows_of count rows.now) (record { organization = organization.entry.now; email = email.now; contact = contact.now; id = id.now; begin = begin; end = end }) }
+    ensures { result ≡ first_fault domain.now (record { authors = authors.now; sets = sets.now }) (rows_of count rows.now) (record { organization = organization.now; email = email.now; contact = contact.now; id = id.now; begin = begin; end = end }) }
 {
     if report_judge::are_passing(0, count, rows, authors, sets) {
         return 18;

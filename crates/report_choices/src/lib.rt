@@ -1,4 +1,6 @@
 // Where a word of the form of an aggregate report leads.
+#![tactic(auto)]
+
 ghost use Rattle.std.specs.Prelude.{◌≡◌, ◌-◌, get_or};
 ghost use Rattle.report_choices.specs.code.Choices.{first_number, word_count, plain_next, by_place, word_next, one_record, chosen_by, LeavesWord};
 

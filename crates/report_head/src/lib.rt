@@ -1,4 +1,6 @@
 // What stands before the records of an aggregate report: the elements `report_metadata` and `policy_published`.
+#![tactic(auto)]
+
 ghost use Rattle.std.specs.Prelude.{◌≡◌};
 ghost use Rattle.octets.specs.Octets.{lower};
 ghost use Rattle.octets_pieces.specs.code.Putting.{Puts};
@@ -41,7 +43,7 @@ pub fn put_metadata<'a>(
     at: usize,
     out: &mut [u8],
 ) -> usize
-    ensures { Puts (metadata (record { organization = organization.entry.now; email = email.now; contact = contact.now; id = id.now; begin = begin; end = end })) at out.old result out.new }
+    ensures { Puts (metadata (record { organization = organization.now; email = email.now; contact = contact.now; id = id.now; begin = begin; end = end })) at out.old result out.new }
 {
     let first = octets_pieces::put(b"<report_metadata><org_name>", at, out);
     let second = report_texts::put_escaped_then(organization, b"</org_name><email>", first, out);

@@ -1,4 +1,6 @@
 // What a reader of aggregate reports keeps: definitions and laws. All of it is numbers, and every octet has a field.
+#![tactic(auto)]
+
 ghost use Rattle.std.specs.Prelude.{◌≡◌};
 ghost use Rattle.report_kept.specs.code.View.{arrived, at_address, plain};
 

@@ -1,4 +1,6 @@
 // One octet of a text, an id or a name of an aggregate report, by value: what it says, and how far the value is after it.
+#![tactic(auto)]
+
 ghost use Rattle.std.specs.Prelude.{◌≡◌, ◌-◌};
 ghost use Rattle.reporting.specs.FileName.{alphanumeric};
 ghost use Rattle.parsing_steps.specs.Stepping.{step_of};

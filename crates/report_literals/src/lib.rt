@@ -1,4 +1,6 @@
 // One octet of a literal of the form of an aggregate report, and where it leads.
+#![tactic(auto)]
+
 ghost use Rattle.std.specs.Prelude.{◌≡◌};
 ghost use Rattle.report_literals.specs.code.Literals.{dkim_number, spf_number, results_number, next_number_of, behind_number, closed_if, flagged_by, LeavesLiteral, TurnsLiteral};
 

@@ -1,4 +1,6 @@
 // One octet of a name of an aggregate report, as it changes a reader's state and its row.
+#![tactic(auto)]
+
 ghost use Rattle.std.specs.Prelude.{◌≡◌};
 ghost use Rattle.report_names.specs.code.Names.{TurnsName, fitting, name_left_at, NamePlace};
 

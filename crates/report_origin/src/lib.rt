@@ -1,4 +1,6 @@
 // One octet of a source address of an aggregate report, as it changes a reader's state and its row.
+#![tactic(auto)]
+
 ghost use Rattle.std.specs.Prelude.{◌≡◌};
 ghost use Rattle.report_kept.specs.code.View.{on_source};
 ghost use Rattle.report_origin.specs.code.Origins.{octet_put, group_put, source_ended, source_next, TurnsSource};

@@ -1,4 +1,6 @@
 // What a reader of aggregate reports tells programs in other languages: definitions, and the claim on parts.
+#![tactic(auto)]
+
 ghost use Rattle.std.specs.Prelude.{◌≡◌};
 ghost use Rattle.report_parts.specs.code.Telling.{told_by};
 

@@ -1,4 +1,6 @@
 // One octet of a word of the form of an aggregate report, as it changes a reader's state.
+#![tactic(auto)]
+
 ghost use Rattle.std.specs.Prelude.{◌≡◌};
 ghost use Rattle.report_choices.specs.code.Choices.{is_single, BeginsWord, TurnsWord};
 

@@ -1,4 +1,6 @@
 // A reader of aggregate reports: its beginning, a part of the text, and the end.
+#![tactic(auto)]
+
 ghost use Rattle.std.specs.Prelude.{◌≡◌};
 ghost use Rattle.report_reader.specs.code.Reading.{TakesSome, ReadsPart, Begins, Ends};
 

@@ -1,4 +1,6 @@
 // A record element of an aggregate report, from a place of lent memory on: constant texts by their numbers, the row's values between them.
+#![tactic(auto)]
+
 ghost use Rattle.std.specs.Prelude.{◌≡◌, [], ◌++◌, ◌||◌, get_or};
 ghost use Rattle.octets_pieces.specs.code.Putting.{Puts};
 ghost use Rattle.report.specs.Report.{row_policy, reported_disposition, result_of_alignment, policy_evaluated, outcome_word, dkim_element, spf_element};

@@ -1,4 +1,6 @@
 // The element `auth_results` of a record, from a set of identifiers: those of DKIM first, then that of SPF.
+#![tactic(auto)]
+
 ghost use Rattle.std.specs.Prelude.{◌≡◌, true, false};
 ghost use Rattle.octets_pieces.specs.code.Putting.{Puts};
 ghost use Rattle.rows.specs.Lists.{reported, set_in};

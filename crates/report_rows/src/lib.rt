@@ -1,4 +1,6 @@
 // A record element of an aggregate report, from a row's 32 octets and the lists beside the rows.
+#![tactic(auto)]
+
 ghost use Rattle.std.specs.Prelude.{◌≡◌, ◌≤◌, length};
 ghost use Rattle.octets_pieces.specs.code.Putting.{Puts};
 ghost use Rattle.report.specs.Report.{row_element, record_element};
@@ -53,7 +55,7 @@ pub fn put_record<'a>(
     at: usize,
     out: &mut [u8],
 ) -> usize
-    ensures { Puts (record_element (line_of (record { authors = authors.entry.now; sets = sets.now }) (row_of row.now))) at out.old result out.new × (length (row_element (row_of row.now)) ≤ 204) }
+    ensures { Puts (record_element (line_of (record { authors = authors.now; sets = sets.now }) (row_of row.now))) at out.old result out.new × (length (row_element (row_of row.now)) ≤ 204) }
 {
     let first = octets_pieces::put(b"<record>", at, out);
     let second = put_row(row, first, out);

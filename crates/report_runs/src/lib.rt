@@ -1,4 +1,6 @@
 // Octets of one literal, word or name of an aggregate report, taken in one run.
+#![tactic(auto)]
+
 ghost use Rattle.std.specs.Prelude.{◌≡◌, ◌+◌, ◌<◌};
 ghost use Rattle.report_taken.specs.code.Taking.{largest};
 ghost use Rattle.report_runs.specs.code.Runs.{far, onward, Matches, OpenPiece, LeadsOn, LeavesPiece, EndsPiece, RunsPiece, RunsName, EndsName, Advances, AdvancesBy};

@@ -1,4 +1,6 @@
 // One octet of a source address of an aggregate report, by value: what it says, and the open number after it.
+#![tactic(auto)]
+
 ghost use Rattle.std.specs.Prelude.{◌≡◌, ◌+◌, ◌*◌, ◌<◌, ◌≤◌};
 ghost use Rattle.report_form.specs.code.ReportReading.{digit_value};
 ghost use Rattle.report_source.specs.code.Sources.{limit, fits_kind, is_sound, refused_turn, grown, number_ended, Turns};

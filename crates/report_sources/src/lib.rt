@@ -1,4 +1,6 @@
 // The source address of a report's row, from a place of lent memory on: one that is IPv4 mapped dotted, any other in hexadecimal groups.
+#![tactic(auto)]
+
 ghost use Rattle.std.specs.Prelude.{◌≡◌, ◌++◌, ◌+◌, ◌*◌, ◌/◌, ◌≤◌, length, get_or, take, drop};
 ghost use Rattle.octets.specs.Octets.{octets};
 ghost use Rattle.octets_pieces.specs.code.Putting.{Puts};

@@ -1,4 +1,6 @@
 // One octet of an aggregate report, as it changes a reader's state and its row.
+#![tactic(auto)]
+
 ghost use Rattle.std.specs.Prelude.{◌≡◌};
 ghost use Rattle.report_kept.specs.code.View.{is_broken, Turned};
 

@@ -1,4 +1,6 @@
 // What an octet of a report writes into the open row, and whether five groups 0 stand before an address's open one.
+#![tactic(auto)]
+
 ghost use Rattle.std.specs.Prelude.{◌≡◌, [], ◌∷◌, ◌+◌, ◌*◌, ◌<◌, get_or};
 ghost use Rattle.report_source.specs.code.Sources.{five_zeros};
 ghost use Rattle.report_kept.specs.Layout.{singles, pairs};

@@ -1,4 +1,6 @@
 // One octet that a reader takes: its state, its row and its count.
+#![tactic(auto)]
+
 ghost use Rattle.std.specs.Prelude.{◌≡◌};
 ghost use Rattle.report_taken.specs.code.Taking.{Takes, KnowsFive, stopped, counted};
 

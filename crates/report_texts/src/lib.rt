@@ -1,4 +1,6 @@
 // The texts of an aggregate report with their entities, from a place of lent memory on; and what refusal 19 asks.
+#![tactic(auto)]
+
 ghost use Rattle.std.specs.Prelude.{◌≡◌, [], ◌∷◌, ◌++◌};
 ghost use Rattle.octets.specs.Octets.{octets};
 ghost use Rattle.octets_pieces.specs.code.Pieces.{piece};

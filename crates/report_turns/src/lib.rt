@@ -1,4 +1,6 @@
 // One octet of a text, an id or a number of an aggregate report, as it changes a reader's state.
+#![tactic(auto)]
+
 ghost use Rattle.std.specs.Prelude.{◌≡◌};
 ghost use Rattle.report_turns.specs.code.Values.{TurnsText, TurnsId, TurnsNumber, least_of, most_of, floor_of, number_left_at};
 

@@ -1,4 +1,6 @@
 // Literals and words of the form of an aggregate report, in one table: an octet of one of them, and the word that an octet begins.
+#![tactic(auto)]
+
 ghost use Rattle.std.specs.Prelude.{◌≡◌, ◌+◌, [], slice_index_or};
 ghost use Rattle.parsing_steps.specs.Stepping.{step_of, behind};
 ghost use Rattle.report_form.specs.ReportForm.{Said};

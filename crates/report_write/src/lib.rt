@@ -1,4 +1,6 @@
 // An aggregate report into the front of lent memory.
+#![tactic(auto)]
+
 ghost use Rattle.std.specs.Prelude.{◌≡◌, min};
 ghost use mathlib.Core.List.{map, flatten};
 ghost use Rattle.octets.specs.Lent.{WritesIf};
@@ -23,7 +25,7 @@ fn put_counted<'a>(
     at: usize,
     out: &mut [u8],
 ) -> usize
-    ensures { Puts (counted_element (record { authors = authors.entry.now; sets = sets.now }) (row_of row.now)) at out.old result out.new × Short (row_of row.now) }
+    ensures { Puts (counted_element (record { authors = authors.now; sets = sets.now }) (row_of row.now)) at out.old result out.new × Short (row_of row.now) }
 {
     if rows_gather::number_at(row, 28) == 0 {
         return at;
@@ -40,7 +42,7 @@ fn put_records<'a>(
     at: usize,
     out: &mut [u8],
 ) -> usize
-    ensures { Puts (flatten (map (counted_element (record { authors = authors.entry.now; sets = sets.now })) (rows_of count rows.now))) at out.old result out.new × AllShort (rows_of count rows.now) }
+    ensures { Puts (flatten (map (counted_element (record { authors = authors.now; sets = sets.now })) (rows_of count rows.now))) at out.old result out.new × AllShort (rows_of count rows.now) }
 {
     let mut t = rows;
     let mut more = count;
@@ -71,7 +73,7 @@ fn put_report<'a>(
     end: u64,
     out: &mut [u8],
 ) -> usize
-    ensures { Puts (text_of domain.now s (record { authors = authors.entry.now; sets = sets.now }) (record { organization = organization.entry.now; email = email.now; contact = contact.now; id = id.now; begin = begin; end = end }) (rows_of count rows.now)) 0 out.old result out.new × AllShort (rows_of count rows.now) }
+    ensures { Puts (text_of domain.now s (record { authors = authors.now; sets = sets.now }) (record { organization = organization.now; email = email.now; contact = contact.now; id = id.now; begin = begin; end = end }) (rows_of count rows.now)) 0 out.old result out.new × AllShort (rows_of count rows.now) }
 {
     let first = octets_pieces::put(
         b"<?xml version=\"1.0\" encoding=\"UTF-8\"?><feedback xmlns=\"urn:ietf:params:xml:ns:dmarc-2.0\">",
@@ -109,7 +111,7 @@ fn write_text<'a>(
     end: u64,
     out: &mut [u8],
 ) -> Written
-    ensures { WritesShort (rows_of count rows.now) (text_of domain.now s (record { authors = authors.entry.now; sets = sets.now }) (record { organization = organization.entry.now; email = email.now; contact = contact.now; id = id.now; begin = begin; end = end }) (rows_of count rows.now)) out.old result out.new }
+    ensures { WritesShort (rows_of count rows.now) (text_of domain.now s (record { authors = authors.now; sets = sets.now }) (record { organization = organization.now; email = email.now; contact = contact.now; id = id.now; begin = begin; end = end }) (rows_of count rows.now)) out.old result out.new }
 {
     if out.len() < LONGEST {
         let mut none = [0u8; 1];
@@ -165,7 +167,7 @@ pub fn write_report<'a>(
     end: u64,
     out: &mut [u8],
 ) -> Written
-    ensures { WritesIf (report (listing list (rows_of (min count 256) rows.now)) (record { authors = authors.entry.now; sets = sets.now }) (record { organization = organization.entry.now; email = email.now; contact = contact.now; id = id.now; begin = begin; end = end }) s) out.old result out.new }
+    ensures { WritesIf (report (listing list (rows_of (min count 256) rows.now)) (record { authors = authors.now; sets = sets.now }) (record { organization = organization.now; email = email.now; contact = contact.now; id = id.now; begin = begin; end = end }) s) out.old result out.new }
 {
     if list.cleared == 0 {
         return Written::Refused(Refusal {

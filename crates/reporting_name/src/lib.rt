@@ -1,4 +1,6 @@
 // The report file name.
+#![tactic(auto)]
+
 ghost use Rattle.std.specs.Prelude.{◌≡◌, []};
 ghost use Rattle.octets.specs.Octets.{if◌then◌else◌};
 ghost use Rattle.octets.specs.Lent.{WritesIf};

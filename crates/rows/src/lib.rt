@@ -1,5 +1,6 @@
 // Daily rows of one policy domain: definitions and claims. All of it is numbers, and every octet has a field, so that programs in
 // other languages can lend it. A flag is set where it is not 0.
+#![tactic(auto)]
 
 // What is gathered of a verdict. The last two are places in the lists handed in beside the rows: of the author domain, and of the
 // set of identifiers. What is spare is neither matched nor read.

@@ -1,4 +1,6 @@
 // What is done with a day's list by value, its rows apart: it is named, and a verdict is checked before a row is looked for.
+#![tactic(auto)]
+
 ghost use Rattle.std.specs.Prelude.{◌≡◌, not};
 ghost use Rattle.octets.specs.Octets.{same_text};
 ghost use Rattle.octets.specs.Refusing.{refusal};
@@ -92,7 +94,7 @@ pub fn check<'a>(
     authors: &'a [u8],
     sets: &'a [u8],
 ) -> u8
-    ensures { result ≡ check_number (domain_in list) entry (record { authors = authors.entry.now; sets = sets.now }) domain.now }
+    ensures { result ≡ check_number (domain_in list) entry (record { authors = authors.now; sets = sets.now }) domain.now }
 {
     let finding = entry.finding;
     if !is_judged(finding) {

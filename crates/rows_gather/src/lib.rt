@@ -1,4 +1,6 @@
 // A day's rows as one text: 32 octets a row, by which the report is written from lent octets alone.
+#![tactic(auto)]
+
 ghost use Rattle.std.specs.Prelude.{◌≡◌, ◌+◌, ◌≤◌, length, drop};
 ghost use Rattle.octets_append.specs.code.Appending.{Appends};
 ghost use Rattle.rows_gather.specs.code.Gathered.{number_from, number_octets, row_octets, no_rows, with_row};

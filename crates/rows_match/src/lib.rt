@@ -1,4 +1,6 @@
 // What is done with one row of a day's list, by value.
+#![tactic(auto)]
+
 ghost use Rattle.std.specs.Prelude.{◌≡◌, min, leb};
 ghost use Rattle.std.specs.Bool.{beq};
 ghost use Rattle.octets.specs.Octets.{is_set, same};

@@ -1,4 +1,6 @@
 // What a row's two numbers name in the lists beside the rows: whether refusal 28 is due.
+#![tactic(auto)]
+
 ghost use Rattle.std.specs.Prelude.{◌≡◌, false, not, ◌||◌, eqb};
 ghost use Rattle.octets.specs.Octets.{is_nothing};
 ghost use Rattle.octets.specs.Framing.{is_whole};
@@ -97,7 +99,7 @@ pub fn is_set(body: &[u8]) -> bool
 
 // Whether both numbers name something: 28 is due where they don't.
 pub fn is_named<'a>(authors: &'a [u8], sets: &'a [u8], author: u32, set: u32) -> bool
-    ensures { result ≡ not (is_nothing (named_by (record { authors = authors.entry.now; sets = sets.now }) author set)) }
+    ensures { result ≡ not (is_nothing (named_by (record { authors = authors.now; sets = sets.now }) author set)) }
 {
     if !is_whole(record_at(authors, author)) {
         return false;

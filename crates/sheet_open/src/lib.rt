@@ -1,4 +1,6 @@
 // The opening of a sheet's message, and the adding of its identifiers, one after another.
+#![tactic(auto)]
+
 ghost use Rattle.std.specs.Prelude.{◌≡◌, []};
 ghost use Rattle.verdict.specs.Message.{Message};
 ghost use Rattle.asking.specs.Asking.{given};

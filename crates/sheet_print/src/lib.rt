@@ -1,4 +1,6 @@
 // The lines that are printed for a sheet, from a place of lent memory on.
+#![tactic(auto)]
+
 ghost use Rattle.std.specs.Prelude.{[], ◌≡◌, ◌≤◌, length, get_or};
 ghost use Rattle.octets.specs.Octets.{octets};
 ghost use Rattle.octets_pieces.specs.code.Putting.{Puts};

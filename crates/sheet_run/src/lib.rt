@@ -1,4 +1,6 @@
 // One message from a sheet: the calls of its evaluation, and the text that is printed for it.
+#![tactic(auto)]
+
 ghost use Rattle.std.specs.Prelude.{◌≡◌, ◌≤◌, length, take};
 ghost use Rattle.octets.specs.Lent.{Writes, left};
 ghost use Rattle.sheet.specs.Printed.{printed};

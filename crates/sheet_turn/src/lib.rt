@@ -1,4 +1,6 @@
 // A turn of next step and answer.
+#![tactic(auto)]
+
 ghost use Rattle.std.specs.Prelude.{◌≡◌, ◌≤◌, length, take};
 ghost use Rattle.evaluation.specs.GivenBack.{marked};
 ghost use Rattle.sheet_turn.specs.code.Conversing.{TakesTurn, AsksName};

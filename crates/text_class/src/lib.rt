@@ -1,4 +1,6 @@
 // Classes of octets.
+#![tactic(auto)]
+
 ghost use Rattle.std.specs.Prelude.{◌≡◌};
 ghost use Rattle.octets.specs.Octets.{between, is_letter, is_digit, is_blank};
 ghost use Rattle.text_class.specs.code.Classes.{in_class};

@@ -1,4 +1,6 @@
 // The front part of a text that is of a class, what follows it, and trimming.
+#![tactic(auto)]
+
 ghost use Rattle.std.specs.Prelude.{◌≡◌, not, eqb, length};
 ghost use Rattle.octets.specs.Octets.{made_of, one_of, front, after, trim_end, trim};
 ghost use Rattle.text_class.specs.code.Classes.{in_class};

@@ -1,4 +1,6 @@
 // The number of an answer's status read; what an answer says of its name, kept as a number and read back.
+#![tactic(auto)]
+
 ghost use Rattle.std.specs.Prelude.{◌≡◌, ◌<◌};
 ghost use Rattle.txt.specs.Answers.{status_numbered};
 ghost use Rattle.txt_codes.specs.code.Codes.{setting_code, mode_code, psd_code, flag_code, settings_code, reply_code, setting_of, mode_of_code, psd_of, settings_of, reply_of};

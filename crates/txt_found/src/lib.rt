@@ -1,4 +1,6 @@
 // The policy records among an answer's texts, and what they say of its name.
+#![tactic(auto)]
+
 ghost use Rattle.std.specs.Prelude.{◌≡◌};
 ghost use Rattle.txt_found.specs.code.Finding.{add_found, found_reply};
 

@@ -1,4 +1,6 @@
 // An answer's octets: whether they can be read, and the text of one record.
+#![tactic(auto)]
+
 ghost use Rattle.std.specs.Prelude.{◌≡◌, ◌≤◌};
 ghost use Rattle.txt.specs.Answers.{rdata_text, texts_of, texts_read};
 ghost use Rattle.txt_read.specs.code.Steps.{is_there, front_of};

@@ -1,4 +1,6 @@
 // An answer taken: its texts into the scratch, and the policy record at a name, or a refusal.
+#![tactic(auto)]
+
 ghost use Rattle.std.specs.Prelude.{◌≡◌};
 ghost use Rattle.txt.specs.Answers.{answer_of, joined};
 ghost use Rattle.octets.specs.Refusing.{refusal};

@@ -1,4 +1,6 @@
 // An evaluation from its beginning, and from where it stands with the answer that it waited for.
+#![tactic(auto)]
+
 ghost use Rattle.walk_known.specs.code.Kept.{kept_answers};
 ghost use Rattle.verdict_cursor.specs.code.Standing.{Begins, Moves};
 ghost use Rattle.verdict_cursor.specs.code.Positions.{place_in};

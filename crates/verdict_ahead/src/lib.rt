@@ -1,4 +1,6 @@
 // What is ahead of an evaluation, by where it stands.
+#![tactic(auto)]
+
 ghost use Rattle.std.specs.Prelude.{◌≡◌, ◌&&◌, min, leb};
 ghost use Rattle.verdict_cursor.specs.code.Positions.{place_in};
 ghost use Rattle.verdict_ahead.specs.code.Waits.{Looks, Waits};

@@ -1,4 +1,6 @@
 // The author's walk stored.
+#![tactic(auto)]
+
 ghost use Rattle.walk_known.specs.code.Kept.{kept_answers};
 ghost use Rattle.walk_progress.specs.code.Stops.{stored_of};
 ghost use Rattle.verdict_cursor.specs.code.Standing.{WritesAuthor};

@@ -1,4 +1,6 @@
 // The identifiers compared, in the given order.
+#![tactic(auto)]
+
 ghost use Rattle.std.specs.Prelude.{◌≡◌, ◌+◌, ◌<◌, min, length, set};
 ghost use Rattle.walk_known.specs.code.Kept.{kept_answers};
 ghost use Rattle.verdict_cursor.specs.code.Standing.{given_count, ComparesFrom};

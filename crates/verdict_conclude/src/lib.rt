@@ -1,4 +1,6 @@
 // The verdict by what is stored.
+#![tactic(auto)]
+
 ghost use Rattle.std.specs.Prelude.{◌≡◌, drop};
 ghost use Rattle.lookup.specs.Lookup.{has};
 ghost use Rattle.alignment_stored.specs.code.Stored.{slot};

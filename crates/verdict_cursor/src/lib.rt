@@ -1,4 +1,6 @@
 // Where an evaluation stands between calls: definitions.
+#![tactic(auto)]
+
 use domain::Octet;
 use policy::Settings;
 use verdict::AppliedPolicy;

@@ -1,4 +1,6 @@
 // The author's walk, and the record that it gives.
+#![tactic(auto)]
+
 ghost use Rattle.walk_known.specs.code.Kept.{kept_answers};
 ghost use Rattle.verdict_cursor.specs.code.Positions.{place_in};
 ghost use Rattle.verdict_found.specs.code.Found.{Completes, Judges, Finds};

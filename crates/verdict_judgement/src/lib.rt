@@ -1,4 +1,6 @@
 // A message as it is stored, and a verdict in numbers: definitions.
+#![tactic(auto)]
+
 use domain::Octet;
 use verdict::{AppliedPolicy, Disposition, Existence, Result};
 

@@ -1,4 +1,6 @@
 // The numbers of a verdict.
+#![tactic(auto)]
+
 ghost use Rattle.std.specs.Prelude.{◌≡◌};
 ghost use Rattle.rows.specs.Rows.{result_number, disposition_number};
 

@@ -1,4 +1,6 @@
 // The reply at the author's own name.
+#![tactic(auto)]
+
 ghost use Rattle.std.specs.Prelude.{◌≡◌};
 ghost use Rattle.walk_known.specs.code.Kept.{kept_answers};
 ghost use Rattle.walk_progress.specs.code.Stops.{reached_in};

@@ -1,4 +1,6 @@
 // One identifier compared.
+#![tactic(auto)]
+
 ghost use Rattle.std.specs.Prelude.{◌≡◌};
 ghost use Rattle.alignment.specs.Alignments.{settled_alignment};
 ghost use Rattle.alignment_stored.specs.code.Stored.{slot, identifier_at};

@@ -1,4 +1,6 @@
 // Each place as plain fields, and such a place read.
+#![tactic(auto)]
+
 ghost use Rattle.std.specs.Prelude.{◌≡◌};
 ghost use Rattle.walk_stop.specs.code.KeptStops.{stop_in};
 ghost use Rattle.verdict_cursor.specs.code.Positions.{policy_in, ruling_in, place_in};

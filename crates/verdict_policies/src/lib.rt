@@ -1,4 +1,6 @@
 // The policy and the disposition.
+#![tactic(auto)]
+
 ghost use Rattle.std.specs.Prelude.{◌≡◌};
 ghost use Rattle.verdict.specs.Verdict.{same_policy, policy_by_existence, policy_before_step, one_step_down, policy_of, result_with, failing_disposition, disposition_of};
 

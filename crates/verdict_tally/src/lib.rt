@@ -1,4 +1,6 @@
 // The alignment of each identifier by what is stored, as digits, and what holds of any.
+#![tactic(auto)]
+
 ghost use Rattle.std.specs.Prelude.{◌≡◌, map, ◌||◌, ◌<◌, get_or};
 ghost use Rattle.std.proofs.Math.Option.{none};
 ghost use Rattle.walk_progress.specs.code.Stored.{stored_domain};

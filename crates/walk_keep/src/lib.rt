@@ -1,4 +1,6 @@
 // A reply kept with those before it.
+#![tactic(auto)]
+
 ghost use Rattle.std.specs.Prelude.{◌≡◌, ◌+◌, ◌≤◌, length, set};
 ghost use Rattle.walk_keep.specs.code.Keeping.{begin_of_slot, KeepsReply};
 

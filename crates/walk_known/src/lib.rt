@@ -1,4 +1,6 @@
 // A look at a name, among the answers kept.
+#![tactic(auto)]
+
 ghost use Rattle.std.specs.Prelude.{◌≡◌, drop};
 ghost use Rattle.domain.specs.Domain.{asked_name};
 ghost use Rattle.walk_known.specs.code.Kept.{kept_answers, known, looked, looked_at};

@@ -1,4 +1,6 @@
 // How far a walk has gone, as code says it: definitions.
+#![tactic(auto)]
+
 use domain::{Labels, Octet};
 use domain_labels::Target;
 use policy::Settings;

@@ -1,4 +1,6 @@
 // The walk up a domain, as far as the kept answers let it go.
+#![tactic(auto)]
+
 ghost use Rattle.std.specs.Prelude.{◌≡◌};
 ghost use Rattle.walk_known.specs.code.Kept.{kept_answers};
 ghost use Rattle.walk_progress.specs.code.Summary.{found_in};

@@ -1,4 +1,6 @@
 // A walk over the kept answers: at one target, and over its last ones.
+#![tactic(auto)]
+
 ghost use Rattle.walk_known.specs.code.Kept.{kept_answers};
 ghost use Rattle.walk_step.specs.code.Steps.{Steps, ReachesPlaced};
 

@@ -1,4 +1,6 @@
 // Where an open walk stops, as plain numbers to keep, and such numbers read.
+#![tactic(auto)]
+
 ghost use Rattle.std.specs.Prelude.{◌≡◌};
 ghost use Rattle.walk_stop.specs.code.KeptStops.{stop_in, blank_stop};
 

@@ -1,4 +1,6 @@
 // One turn of a walk, and the number stored of it.
+#![tactic(auto)]
+
 ghost use Rattle.std.specs.Prelude.{◌≡◌};
 ghost use Rattle.txt.specs.declared.Reply.{Reply};
 ghost use Rattle.walk_progress.specs.code.Progress.{stored_in};

@@ -1,4 +1,6 @@
 // For programs in other languages that send their own lookups: the next step, and an answer.
+#![tactic(auto)]
+
 ghost use Rattle.book.specs.Book.{answer};
 ghost use Rattle.txt.specs.Answers.{status_numbered};
 ghost use Rattle.evaluation_numbers.specs.Numbers.{Accepts, Steps};

@@ -1,5 +1,7 @@
 // For programs in other languages that send their own lookups: the check of a report address. What is lent nowhere overlaps:
 // the C header's functions see to it.
+#![tactic(auto)]
+
 ghost use Rattle.std.specs.Prelude.{◌≡◌, []};
 ghost use Rattle.octets.specs.Lent.{written, left, written_numbers};
 ghost use Rattle.txt.specs.Answers.{status_numbered};

@@ -1,4 +1,6 @@
 // For programs in other languages: an Identity-Alignment field is read.
+#![tactic(auto)]
+
 ghost use Rattle.std.specs.Prelude.{◌≡◌};
 ghost use Rattle.field.specs.Numbers.{field_read};
 ghost use Rattle.field.specs.Numbers.{field_read_numbers};

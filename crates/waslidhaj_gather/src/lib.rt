@@ -1,5 +1,7 @@
 // For programs in other languages: a day's rows, gathered for a report. Proved by a walk of its MIR by hand: the borrow checker
 // covers no function that has a `&[Row]`.
+#![tactic(auto)]
+
 ghost use Rattle.std.specs.Prelude.{◌≡◌};
 ghost use Rattle.rows.specs.Rows.{on_list};
 ghost use Rattle.rows_gather.specs.code.Gathered.{rows_in};

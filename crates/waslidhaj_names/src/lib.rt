@@ -1,4 +1,6 @@
 // For programs in other languages: the file name of an aggregate report.
+#![tactic(auto)]
+
 ghost use Rattle.std.specs.Prelude.{◌≡◌, not, eqb};
 ghost use Rattle.octets.specs.Lent.{WritesByNumbers};
 ghost use Rattle.reporting.specs.FileName.{given_id, file_name};

@@ -1,4 +1,6 @@
 // For programs in other languages that send their own lookups: a message is opened, and its identifiers are added.
+#![tactic(auto)]
+
 ghost use Rattle.std.specs.Prelude.{[]};
 ghost use Rattle.book.specs.Start.{opening};
 ghost use Rattle.book.specs.Book.{add};

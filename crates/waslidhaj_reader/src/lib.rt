@@ -1,4 +1,6 @@
 // For programs in other languages: an aggregate report, read in parts as they arrive.
+#![tactic(auto)]
+
 ghost use Rattle.report_parts.specs.Parts.{IsNew, Feeds, EndsAt};
 
 use report_kept::ReaderState;

@@ -1,4 +1,6 @@
 // For programs in other languages: what is read of an evaluation, which stays as it is.
+#![tactic(auto)]
+
 ghost use Rattle.std.specs.Prelude.{◌≡◌, drop};
 ghost use Rattle.octets.specs.Octets.{lower};
 ghost use Rattle.octets.specs.Lent.{written, left, written_numbers};

@@ -1,4 +1,6 @@
 // For programs in other languages: a policy record is written, and a text read as one.
+#![tactic(auto)]
+
 ghost use Rattle.std.specs.Prelude.{◌≡◌};
 ghost use Rattle.octets.specs.Lent.{WritesByNumbers};
 ghost use Rattle.policy.specs.Records.{read_policy, rua_bounds};

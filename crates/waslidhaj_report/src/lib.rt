@@ -1,4 +1,6 @@
 // For programs in other languages: an aggregate report, and its mail subject.
+#![tactic(auto)]
+
 ghost use Rattle.std.specs.Prelude.{◌≡◌};
 ghost use Rattle.octets.specs.Lent.{WritesByNumbers};
 ghost use Rattle.publishing.specs.Numbers.{settings_in};
@@ -28,7 +30,7 @@ pub extern "C" fn waslidhaj_report_apart<'a>(
     end: u64,
     out: &mut [u8],
 ) -> WrittenNumbers
-    ensures { WritesByNumbers (report (listing list (rows_in gathered)) (record { authors = authors.entry.now; sets = sets.now }) (record { organization = organization.entry.now; email = email.now; contact = contact.now; id = id.now; begin = begin; end = end }) (settings_in numbers)) out.old result out.new }
+    ensures { WritesByNumbers (report (listing list (rows_in gathered)) (record { authors = authors.now; sets = sets.now }) (record { organization = organization.now; email = email.now; contact = contact.now; id = id.now; begin = begin; end = end }) (settings_in numbers)) out.old result out.new }
 {
     let rows = gathered.octets;
     let settings = publishing_numbers::settings_in(numbers);

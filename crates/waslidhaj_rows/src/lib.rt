@@ -1,6 +1,8 @@
 // For programs in other languages: a day's list of rows is cleared, and verdicts are entered. The last two are thin, and each is
 // proved by a walk of its MIR by hand: the borrow checker covers none that has a `&mut [Row]`. The texts and the rows lent to them
 // nowhere overlap: the C header's `waslidhaj_clear` and `waslidhaj_enter` see to it.
+#![tactic(auto)]
+
 ghost use Rattle.std.specs.Prelude.{◌≡◌};
 ghost use Rattle.rows.specs.History.{clear, enter};
 ghost use Rattle.rows_day.specs.Day.{never_cleared, Does};
@@ -43,7 +45,7 @@ pub extern "C" fn waslidhaj_enter_apart<'a>(
     sets: &'a [u8],
     rows: &mut [Row],
 ) -> Changed
-    ensures { Does (enter entry (record { authors = authors.entry.now; sets = sets.now }) domain.now) list rows.old result rows.new }
+    ensures { Does (enter entry (record { authors = authors.now; sets = sets.now }) domain.now) list rows.old result rows.new }
 {
     let checked = rows_check::check(list, entry, domain, authors, sets);
     if checked != 0 {

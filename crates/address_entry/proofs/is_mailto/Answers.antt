@@ -9,13 +9,13 @@ returns-then-is_one_of c = has_comma c.args.entry.now (sym c.is_one_of.ensures �
 
 pub returns-then-not-is_valid_entry : goal.returns-then-not-is_valid_entry
 returns-then-not-is_valid_entry c =
-        let a = c.args in
+    let a = c.args in
     not_valid a.entry.now (sym c.is_valid_entry.ensures ∙ c.if-not-is_valid_entry.true)
 
 pub returns : goal.returns
 unfolding octets part_of
 returns c =
-        let a = c.args in
+    let a = c.args in
     c.same_text.ensures
     ∙ rw c.part.ensures
     (by_scheme a.entry.now (sym c.is_one_of.ensures ∙ c.if-is_one_of.false)

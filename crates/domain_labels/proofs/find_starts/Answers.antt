@@ -20,20 +20,20 @@ loop-i-preserved c =
     let m = c.loop-i in
     let f = m.invariant.4 in
     elim c.if-s-i-eq46.branch [
-      then-s-i-eq46 w ↦
-        let dot = w.if-s-i-eq46.true in
-        rw (w.begins-is, w.labels-is) (
-          omega arith,
-          omega arith,
-          omega arith,
-          omega (arith, count_at_dot s (m.i - 1) m.i (omega arith) (omega arith) dot),
-          elim w.if-labels-le8.branch [
-            then-labels-le8 v ↦ rw v.begins-is (found_one s m.begins m.labels f m.i (omega arith) (omega arith) dot m.invariant.3 (omega arith) v.if-labels-le8.true)
-          | else-labels-le8 v ↦ rw v.begins-is (found_late s m.begins m.labels f (omega (arith, v.if-labels-le8.false)))
-          ],
-        )
-    | else-s-i-eq46 w ↦
-        rw (w.begins-is, w.labels-is) (omega arith, omega arith, omega arith, omega (arith, count_at_other s (m.i - 1) m.i (omega arith) (omega arith) w.if-s-i-eq46.false), f)
+      | then-s-i-eq46 w ↦
+          let dot = w.if-s-i-eq46.true in
+          rw (w.begins-is, w.labels-is) (
+            omega arith,
+            omega arith,
+            omega arith,
+            omega (arith, count_at_dot s (m.i - 1) m.i (omega arith) (omega arith) dot),
+            elim w.if-labels-le8.branch [
+              | then-labels-le8 v ↦ rw v.begins-is (found_one s m.begins m.labels f m.i (omega arith) (omega arith) dot m.invariant.3 (omega arith) v.if-labels-le8.true)
+              | else-labels-le8 v ↦ rw v.begins-is (found_late s m.begins m.labels f (omega (arith, v.if-labels-le8.false)))
+            ],
+          )
+      | else-s-i-eq46 w ↦
+          rw (w.begins-is, w.labels-is) (omega arith, omega arith, omega arith, omega (arith, count_at_other s (m.i - 1) m.i (omega arith) (omega arith) w.if-s-i-eq46.false), f)
     ]
 
 pub returns : goal.returns

@@ -14,6 +14,6 @@ scan-scanned-requires c = (all_classes, omega arith)
 
 pub returns : goal.returns
 returns c =
-        let s = c.args.s.now in
+    let s = c.args.s.now in
     let found = c.scan-scanned.ensures (omega arith) in
     good_domain s (no_bad 0 (labels s) found.0 (c.is_short.ensures (c.if-not-is_short.false))) (omega arith) _ found.1

@@ -26,22 +26,22 @@ loop-i-preserved c =
     let s = c.args.s.now in
     let size = c.requires in
     elim c.if-s-i-eq46.branch [
-    then-s-i-eq46 w ↦ rw w.run-is (
-      omega arith,
-      omega arith,
-      omega arith,
-      λ e.
-          let p = m.invariant.3 (omega arith) in
-          (omega arith, rw (drop_before s m.i (omega arith) (omega arith)) (short_dot (drop m.i s) m.run p.1 p.0 _ (eq-eqb _ _ w.if-s-i-eq46.true))),
-    )
-    | else-s-i-eq46 w ↦ rw w.run-is (
-      omega arith,
-      omega arith,
-      omega (arith, size),
-      λ e.
-          let p = m.invariant.3 (omega arith) in
-          (omega arith, rw (drop_before s m.i (omega arith) (omega arith)) (short_other (drop m.i s) m.run p.1 _ (ne_eqb _ _ w.if-s-i-eq46.false))),
-    )
+      | then-s-i-eq46 w ↦ rw w.run-is (
+        omega arith,
+        omega arith,
+        omega arith,
+        λ e.
+            let p = m.invariant.3 (omega arith) in
+            (omega arith, rw (drop_before s m.i (omega arith) (omega arith)) (short_dot (drop m.i s) m.run p.1 p.0 _ (eq-eqb _ _ w.if-s-i-eq46.true))),
+      )
+      | else-s-i-eq46 w ↦ rw w.run-is (
+        omega arith,
+        omega arith,
+        omega (arith, size),
+        λ e.
+            let p = m.invariant.3 (omega arith) in
+            (omega arith, rw (drop_before s m.i (omega arith) (omega arith)) (short_other (drop m.i s) m.run p.1 _ (ne_eqb _ _ w.if-s-i-eq46.false))),
+      )
     ]
 
 pub returns : goal.returns

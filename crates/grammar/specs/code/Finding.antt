@@ -22,8 +22,8 @@ has_text (a or b) = elim (has_text a) [ true ↦ true | false ↦ has_text b ]
 has_text (many a) = true
 
 -- `then` and `or`, kept short
-infixr 30 ◌and-then◌
-unfoldable pub ◌and-then◌ : Grammar → Grammar → Grammar
+infixr 30 ◌and_then◌
+unfoldable pub ◌and_then◌ : Grammar → Grammar → Grammar
 none and_then b = none
 empty and_then b = b
 range low high and_then b = range low high then b
@@ -31,8 +31,8 @@ range low high and_then b = range low high then b
 (a or c) and_then b = (a or c) then b
 many a and_then b = many a then b
 
-infixr 25 ◌or-else◌
-unfoldable pub ◌or-else◌ : Grammar → Grammar → Grammar
+infixr 25 ◌or_else◌
+unfoldable pub ◌or_else◌ : Grammar → Grammar → Grammar
 none or_else b = b
 empty or_else b = empty or b
 range low high or_else b = range low high or b

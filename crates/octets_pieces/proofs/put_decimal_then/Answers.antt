@@ -6,7 +6,7 @@ use Rattle.octets_pieces.proofs.put_decimal_then.Goals as goal
 
 pub returns : goal.returns
 returns c =
-        let a = c.args in
+    let a = c.args in
     let text = decimal a.x in
     puts_both text a.rest.now a.out.now a.at
     (puts text a.out.now a.at (omega (arith, c)) c.append_decimal.ensures (rw c.decimal_length.ensures at c.wrapping_add_usize-begin.ensures.value))

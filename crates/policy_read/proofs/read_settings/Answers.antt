@@ -11,7 +11,7 @@ use Rattle.policy_read.proofs.read_settings.Goals as goal
 pub returns : goal.returns
 unfolding settings_from
 returns c =
-        rw (
+    rw (
       c.read_policy.ensures ∙ ap policy_setting c.value_at.ensures,
       c.read_policy-2.ensures ∙ ap policy_setting c.value_at-2.ensures,
       c.read_policy-3.ensures ∙ ap policy_setting c.value_at-3.ensures,

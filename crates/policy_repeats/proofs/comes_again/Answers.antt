@@ -19,7 +19,7 @@ is_stored-requires c = record { few = omega arith; keyed = λ i h. c.requires i 
 
 pub returns-then-is_stored : goal.returns-then-is_stored
 returns-then-is_stored c =
-        let a = c.args in
+    let a = c.args in
     let first = c.loop-at.invariant.0 c.loop-at-test.true in
     sym (c.loop-at.invariant.1 ∙ any_here (is_stored a.text.now a.places.now 1024) first (sym c.is_stored.ensures ∙ c.if-is_stored.true))
 
@@ -28,12 +28,12 @@ part_after-requires c = c.loop-at-test.true
 
 pub loop-at-smaller : goal.loop-at-smaller
 loop-at-smaller c =
-        goes_on c.args.text.now c.loop-at.at c.loop-at-test.true
+    goes_on c.args.text.now c.loop-at.at c.loop-at-test.true
     c.part_after.result c.part_after.ensures c.next_unknown-at-in-loop-at.result c.next_unknown-at-in-loop-at.ensures.onward
 
 pub loop-at-preserved : goal.loop-at-preserved
 loop-at-preserved c =
-        let a = c.args in
+    let a = c.args in
     let s = a.text.now in
     let first = c.loop-at.invariant.0 c.loop-at-test.true in
     let other = sym c.is_stored.ensures ∙ c.if-is_stored.false in

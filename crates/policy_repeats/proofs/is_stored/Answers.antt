@@ -29,7 +29,7 @@ bounds-places-last c = omega (arith, c.requires.few)
 pub returns-then-same_text : goal.returns-then-same_text
 unfolding same_text
 returns-then-same_text c =
-        let a = c.args in
+    let a = c.args in
     let s = a.text.now in
     let places = a.places.now in
     let name = name_at s a.at in
@@ -45,7 +45,7 @@ loop-left-smaller-else-same_text c = omega arith
 pub loop-left-preserved-else-same_text : goal.loop-left-preserved-else-same_text
 unfolding same_text
 loop-left-preserved-else-same_text c =
-        let a = c.args in
+    let a = c.args in
     let s = a.text.now in
     let places = a.places.now in
     let name = name_at s a.at in
@@ -60,7 +60,7 @@ loop-left-smaller c = omega arith
 
 pub loop-left-preserved : goal.loop-left-preserved
 loop-left-preserved c =
-        let a = c.args in
+    let a = c.args in
     let s = a.text.now in
     let places = a.places.now in
     let name = name_at s a.at in

@@ -30,7 +30,7 @@ loop-i-smaller c = omega arith
 
 pub loop-i-preserved : goal.loop-i-preserved
 loop-i-preserved c =
-        let s = c.args.name.now in
+    let s = c.args.name.now in
     (omega arith, mod-lt _ {m = prime} (omega arith), c.loop-i.invariant.2 ∙ key_next c.loop-i.key s c.loop-i.i (omega arith))
 
 pub returns : goal.returns

@@ -16,7 +16,7 @@ loop-at-init c = (omega arith, refl)
 
 pub returns-then-is_unknown : goal.returns-then-is_unknown
 returns-then-is_unknown c =
-        let s = c.args.text.now in
+    let s = c.args.text.now in
     let at = c.loop-at.at in
     let part : c.front-part.result.now ≡ front (λ x. not (eqb x 59)) (drop at s) = c.front-part.ensures ∙ ap (front (λ x. not (eqb x 59))) c.skip.ensures in
     let found : is_unknown (trim c.front-part.result.now) ≡ true = ap is_unknown (sym c.trim.ensures) ∙ sym c.is_unknown.ensures ∙ c.if-is_unknown.true in
@@ -24,28 +24,28 @@ returns-then-is_unknown c =
 
 pub overflow_add-at : goal.overflow_add-at
 overflow_add-at c =
-        let s = c.args.text.now in
+    let s = c.args.text.now in
     let at = c.loop-at.at in
     let part : c.front-part.result.now ≡ front (λ x. not (eqb x 59)) (drop at s) = c.front-part.ensures ∙ ap (front (λ x. not (eqb x 59))) c.skip.ensures in
     omega (arith, part_fits s at c.loop-at-test.true _ part)
 
 pub overflow_add-at-in-loop-at : goal.overflow_add-at-in-loop-at
 overflow_add-at-in-loop-at c =
-        let s = c.args.text.now in
+    let s = c.args.text.now in
     let at = c.loop-at.at in
     let part : c.front-part.result.now ≡ front (λ x. not (eqb x 59)) (drop at s) = c.front-part.ensures ∙ ap (front (λ x. not (eqb x 59))) c.skip.ensures in
     omega (arith, part_fits s at c.loop-at-test.true _ part)
 
 pub loop-at-smaller : goal.loop-at-smaller
 loop-at-smaller c =
-        let s = c.args.text.now in
+    let s = c.args.text.now in
     let at = c.loop-at.at in
     let part : c.front-part.result.now ≡ front (λ x. not (eqb x 59)) (drop at s) = c.front-part.ensures ∙ ap (front (λ x. not (eqb x 59))) c.skip.ensures in
     omega arith
 
 pub loop-at-preserved : goal.loop-at-preserved
 loop-at-preserved c =
-        let s = c.args.text.now in
+    let s = c.args.text.now in
     let at = c.loop-at.at in
     let part : c.front-part.result.now ≡ front (λ x. not (eqb x 59)) (drop at s) = c.front-part.ensures ∙ ap (front (λ x. not (eqb x 59))) c.skip.ensures in
     let other : is_unknown (trim c.front-part.result.now) ≡ false = ap is_unknown (sym c.trim.ensures) ∙ sym c.is_unknown.ensures ∙ c.if-is_unknown.false in

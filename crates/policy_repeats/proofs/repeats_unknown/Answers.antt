@@ -12,12 +12,12 @@ loop-at-init c = (omega arith, begins c.next_unknown-at.ensures)
 
 pub is_stored-requires : goal.is_stored-requires
 is_stored-requires c =
-        record { few = omega (arith, c.loop-at.invariant.0); keyed = c.loop-at.invariant.1.keyed }
+    record { few = omega (arith, c.loop-at.invariant.0); keyed = c.loop-at.invariant.1.keyed }
 
 pub returns-then-is_stored : goal.returns-then-is_stored
 unfolding names_left
 returns-then-is_stored c =
-        sym (found c.loop-at.invariant.1 c.loop-at-test.true (sym c.is_stored.ensures ∙ c.if-is_stored.true))
+    sym (found c.loop-at.invariant.1 c.loop-at-test.true (sym c.is_stored.ensures ∙ c.if-is_stored.true))
 
 pub offset_bounds-keys-count : goal.offset_bounds-keys-count
 offset_bounds-keys-count c = omega (arith, c.loop-at.invariant.0)
@@ -39,7 +39,7 @@ part_after-requires c = c.loop-at-test.true
 
 pub comes_again-requires : goal.comes_again-requires
 comes_again-requires c =
-        let after =
+    let after =
     stores c.loop-at.invariant.1 c.loop-at.invariant.0 c.loop-at-test.true c.is_stored.ensures c.if-is_stored.false
     c.name_at.ensures c.key_of.ensures c.part_after.ensures c.next_unknown-at-in-loop-at.ensures in
     let full : c.loop-at.count + 1 ≡ 1024 = omega (arith, c.loop-at.invariant.0, c.if-count-ge-ROOM.true) in
@@ -48,7 +48,7 @@ comes_again-requires c =
 pub returns-then-comes_again : goal.returns-then-comes_again
 unfolding names_left
 returns-then-comes_again c =
-        let after =
+    let after =
     stores c.loop-at.invariant.1 c.loop-at.invariant.0 c.loop-at-test.true c.is_stored.ensures c.if-is_stored.false
     c.name_at.ensures c.key_of.ensures c.part_after.ensures c.next_unknown-at-in-loop-at.ensures in
     let full : c.loop-at.count + 1 ≡ 1024 = omega (arith, c.loop-at.invariant.0, c.if-count-ge-ROOM.true) in
@@ -56,12 +56,12 @@ returns-then-comes_again c =
 
 pub loop-at-smaller-then-count-ge-ROOM : goal.loop-at-smaller-then-count-ge-ROOM
 loop-at-smaller-then-count-ge-ROOM c =
-        goes_on c.args.text.now c.loop-at.at c.loop-at-test.true
+    goes_on c.args.text.now c.loop-at.at c.loop-at-test.true
     c.part_after.result c.part_after.ensures c.next_unknown-at-in-loop-at.result c.next_unknown-at-in-loop-at.ensures.onward
 
 pub loop-at-preserved-then-count-ge-ROOM : goal.loop-at-preserved-then-count-ge-ROOM
 loop-at-preserved-then-count-ge-ROOM c =
-        let after =
+    let after =
     stores c.loop-at.invariant.1 c.loop-at.invariant.0 c.loop-at-test.true c.is_stored.ensures c.if-is_stored.false
     c.name_at.ensures c.key_of.ensures c.part_after.ensures c.next_unknown-at-in-loop-at.ensures in
     let full : c.loop-at.count + 1 ≡ 1024 = omega (arith, c.loop-at.invariant.0, c.if-count-ge-ROOM.true) in
@@ -69,12 +69,12 @@ loop-at-preserved-then-count-ge-ROOM c =
 
 pub loop-at-smaller : goal.loop-at-smaller
 loop-at-smaller c =
-        goes_on c.args.text.now c.loop-at.at c.loop-at-test.true
+    goes_on c.args.text.now c.loop-at.at c.loop-at-test.true
     c.part_after.result c.part_after.ensures c.next_unknown-at-in-loop-at.result c.next_unknown-at-in-loop-at.ensures.onward
 
 pub loop-at-preserved : goal.loop-at-preserved
 loop-at-preserved c =
-        let after =
+    let after =
     stores c.loop-at.invariant.1 c.loop-at.invariant.0 c.loop-at-test.true c.is_stored.ensures c.if-is_stored.false
     c.name_at.ensures c.key_of.ensures c.part_after.ensures c.next_unknown-at-in-loop-at.ensures in
     (omega (arith, c.if-count-ge-ROOM.false), after)

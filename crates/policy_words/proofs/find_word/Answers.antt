@@ -12,7 +12,7 @@ use Rattle.policy_words.proofs.find_word.Goals as goal
 pub returns-then-same_text : goal.returns-then-same_text
 unfolding tag_names record_words octets flatten starts
 returns-then-same_text c =
-        let m = c.loop-i in
+    let m = c.loop-i in
     let a = c.args in
     let here = place_here a.s.now m.i a.last (omega arith) (rw (c.find_piece.ensures ∙ word_is m.i) at (sym c.same_text.ensures ∙ c.if-same_text.true)) in
     omega (arith, m.invariant.2, here)
@@ -20,7 +20,7 @@ returns-then-same_text c =
 pub loop-i-preserved : goal.loop-i-preserved
 unfolding tag_names record_words octets flatten starts
 loop-i-preserved c =
-        let m = c.loop-i in
+    let m = c.loop-i in
     let a = c.args in
     let next = place_next a.s.now m.i a.last (omega arith) (rw (c.find_piece.ensures ∙ word_is m.i) at (sym c.same_text.ensures ∙ c.if-same_text.false)) in
     (omega arith, omega arith, omega (arith, m.invariant.2, next))

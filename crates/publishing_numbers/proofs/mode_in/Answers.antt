@@ -12,4 +12,4 @@ bounds-at-at c = omega (arith, c.smaller-at.ensures)
 pub returns : goal.returns
 unfolding mode_in
 returns c =
-        entry_or_last (Mode.Relaxed ∷ Mode.Strict ∷ []) Mode.Relaxed _ c.args.n _ c.smaller-at.ensures
+    entry_or_last (Mode.Relaxed ∷ Mode.Strict ∷ []) Mode.Relaxed _ c.args.n _ c.smaller-at.ensures

@@ -12,4 +12,4 @@ bounds-at-at c = omega (arith, c.smaller-at.ensures)
 pub returns : goal.returns
 unfolding psd_in
 returns c =
-        entry_or_last (Psd.Unset ∷ Psd.Yes ∷ Psd.No ∷ []) Psd.Unset _ c.args.n _ c.smaller-at.ensures
+    entry_or_last (Psd.Unset ∷ Psd.Yes ∷ Psd.No ∷ []) Psd.Unset _ c.args.n _ c.smaller-at.ensures

@@ -16,4 +16,4 @@ bounds-at-at c = omega (arith, c.smaller-at.ensures)
 pub returns : goal.returns
 unfolding setting_in
 returns c =
-        entry_or_last (Setting.Set Policy.None ∷ Setting.Set Policy.Quarantine ∷ Setting.Set Policy.Reject ∷ Setting.Absent ∷ []) Setting.Invalid _ c.args.n _ c.smaller-at.ensures
+    entry_or_last (Setting.Set Policy.None ∷ Setting.Set Policy.Quarantine ∷ Setting.Set Policy.Reject ∷ Setting.Absent ∷ []) Setting.Invalid _ c.args.n _ c.smaller-at.ensures

@@ -8,4 +8,4 @@ use Rattle.publishing_numbers.proofs.testing_in.Goals as goal
 pub returns : goal.returns
 unfolding testing_in
 returns c =
-        entry_or_last (false ∷ true ∷ []) false _ c.args.n _ c.smaller-at.ensures
+    entry_or_last (false ∷ true ∷ []) false _ c.args.n _ c.smaller-at.ensures

@@ -8,6 +8,6 @@ use Rattle.publishing_write.proofs.put_record.Goals as goal
 
 pub returns : goal.returns
 returns c =
-        let a = c.args in
+    let a = c.args in
     rw (record_parts a.s a.rua.now) at
     (puts_both _ _ a.out.now 0 (puts_both (words_of (22 ∷ [])) (tags_from 0 (value_words a.s)) a.out.now 0 c.put_words-first.ensures (rw c.value_words-values.ensures at c.put_tags-last.ensures)) c.put_rua.ensures)

@@ -12,5 +12,5 @@ returns-then-rua-eq0 c =
 
 pub returns : goal.returns
 returns c =
-        let a = c.args in
+    let a = c.args in
     rw (rua_parts a.rua.now c.if-rua-eq0.false) at (puts_both (words_of (23 ∷ 7 ∷ 24 ∷ [])) a.rua.now a.out.now a.at c.put_words-begin.ensures c.put.ensures)

@@ -13,4 +13,4 @@ returns-then-value-ge-NO_WORD c =
 pub returns : goal.returns
 unfolding tag_words
 returns c =
-        rw (lt-leb 25 c.args.value c.if-value-ge-NO_WORD.false) c.put_words.ensures
+    rw (lt-leb 25 c.args.value c.if-value-ge-NO_WORD.false) c.put_words.ensures

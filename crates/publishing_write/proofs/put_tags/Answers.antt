@@ -17,7 +17,7 @@ loop-name-init c =
 
 pub loop-name-preserved : goal.loop-name-preserved
 loop-name-preserved c =
-        let m = c.loop-name in
+    let m = c.loop-name in
     let a = c.args in
     let fits : m.name < length a.values = search rules in (
       omega arith,

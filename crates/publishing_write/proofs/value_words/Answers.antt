@@ -5,4 +5,4 @@ use Rattle.publishing_write.proofs.value_words.Goals as goal
 pub returns : goal.returns
 unfolding value_words
 returns c =
-        rw (c.setting_word.ensures, c.setting_word-2.ensures, c.setting_word-3.ensures, c.mode_word.ensures, c.mode_word-2.ensures, c.psd_word.ensures, c.testing_word.ensures)
+    rw (c.setting_word.ensures, c.setting_word-2.ensures, c.setting_word-3.ensures, c.mode_word.ensures, c.mode_word-2.ensures, c.psd_word.ensures, c.testing_word.ensures)

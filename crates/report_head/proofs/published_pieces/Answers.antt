@@ -5,7 +5,7 @@ use Rattle.report_head.proofs.published_pieces.Goals as goal
 pub returns : goal.returns
 unfolding published_pieces optional_pieces
 returns c =
-        rw (
+    rw (
       c.tag_piece-4.ensures,
       c.tag_piece-3.ensures,
       c.tag_piece-2.ensures,

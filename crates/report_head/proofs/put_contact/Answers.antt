@@ -9,5 +9,5 @@ returns-then-contact-eq0 c = no_contact c.args.contact.now c.args.out.now c.args
 pub returns : goal.returns
 unfolding octets
 returns c =
-        let a = c.args in
+    let a = c.args in
     a_contact a.contact.now a.out.now a.at c.if-contact-eq0.false c.put-begin.ensures c.put_escaped_then.ensures

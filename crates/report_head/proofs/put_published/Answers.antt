@@ -9,6 +9,6 @@ use Rattle.report_head.proofs.put_published.Goals as goal
 pub returns : goal.returns
 unfolding head_words octets flatten starts
 returns c =
-        let a = c.args in
+    let a = c.args in
     published_puts (lower a.domain.now) a.s a.out.now a.at c.published_pieces-list.ensures c.put-begin.ensures c.put_lower_then-middle.ensures
     c.put_pieces.ensures

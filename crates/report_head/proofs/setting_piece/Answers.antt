@@ -10,17 +10,17 @@ returns-then-not-usable c = not_usable c.args.usable c.args.s (ap not c.if-not-u
 pub returns-in-None : goal.returns-in-None
 unfolding setting_piece
 returns-in-None c =
-        rw (c.if-not-usable.false, c.in-Set.is, c.in-None.is)
+    rw (c.if-not-usable.false, c.in-Set.is, c.in-None.is)
 
 pub returns-in-Quarantine : goal.returns-in-Quarantine
 unfolding setting_piece
 returns-in-Quarantine c =
-        rw (c.if-not-usable.false, c.in-Set.is, c.in-Quarantine.is)
+    rw (c.if-not-usable.false, c.in-Set.is, c.in-Quarantine.is)
 
 pub returns-in-Reject : goal.returns-in-Reject
 unfolding setting_piece
 returns-in-Reject c =
-        rw (c.if-not-usable.false, c.in-Set.is, c.in-Reject.is)
+    rw (c.if-not-usable.false, c.in-Set.is, c.in-Reject.is)
 
 pub returns-in-Absent : goal.returns-in-Absent
 unfolding setting_piece

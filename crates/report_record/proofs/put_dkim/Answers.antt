@@ -6,5 +6,5 @@ use Rattle.report_record.proofs.put_dkim.Goals as goal
 pub returns : goal.returns
 unfolding octets
 returns c =
-        let a = c.args in
+    let a = c.args in
     dkim_puts a.out.now a.at a.domain.now a.selector.now a.outcome c.put-first.ensures c.put_lower_then-second.ensures c.put_lower_then-third.ensures c.put_result.ensures

@@ -9,5 +9,5 @@ use Rattle.report_record.proofs.put_evaluated.Goals as goal
 pub returns : goal.returns
 unfolding record_words octets flatten starts is_set
 returns c =
-        let a = c.args in
+    let a = c.args in
     rw (evaluated_pieces a.seen _ _ _ _ c.either.ensures c.disposition_piece.ensures c.alignment_piece.ensures c.alignment_piece-2.ensures) at c.put_pieces.ensures

@@ -9,5 +9,5 @@ use Rattle.report_record.proofs.put_result.Goals as goal
 pub returns : goal.returns
 unfolding record_words octets flatten starts
 returns c =
-        let a = c.args in
+    let a = c.args in
     rw (result_pieces a.outcome _ a.end c.outcome_piece.ensures) at c.put_pieces.ensures

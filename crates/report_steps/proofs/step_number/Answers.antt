@@ -28,7 +28,7 @@ overflow_sub-digit c =
 
 pub returns-then-not-is_within : goal.returns-then-not-is_within
 returns-then-not-is_within c =
-        let a = c.args in
+    let a = c.args in
     over a.least a.most a.floor a.value a.some a.x c.if-x-eq60.false (sym c.is_next_digit.ensures ∙ c.if-not-is_next_digit.false) (sym c.is_within.ensures ∙ c.if-not-is_within.true)
 
 pub overflow_mul-tens : goal.overflow_mul-tens
@@ -43,5 +43,5 @@ overflow_add-more c =
 
 pub returns : goal.returns
 returns c =
-        let a = c.args in
+    let a = c.args in
     goes_on a.least a.most a.floor a.value a.some a.x c.if-x-eq60.false (sym c.is_next_digit.ensures ∙ c.if-not-is_next_digit.false) (sym c.is_within.ensures ∙ c.if-not-is_within.false)

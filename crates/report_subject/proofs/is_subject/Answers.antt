@@ -8,7 +8,7 @@ returns-then-not-is_domain c = rw (sym c.is_domain.ensures ∙ c.if-not-is_domai
 
 pub returns-then-not-is_domain-2 : goal.returns-then-not-is_domain-2
 returns-then-not-is_domain-2 c =
-        rw (
+    rw (
       sym c.is_domain.ensures ∙ c.if-not-is_domain.false,
       sym c.is_domain-2.ensures ∙ c.if-not-is_domain-2.true,
     )
@@ -16,7 +16,7 @@ returns-then-not-is_domain-2 c =
 pub returns : goal.returns
 unfolding good_id alphanumeric
 returns c =
-        rw (
+    rw (
       sym c.is_domain.ensures ∙ c.if-not-is_domain.false,
       sym c.is_domain-2.ensures ∙ c.if-not-is_domain-2.false,
     ) c.is_made_of.ensures

@@ -6,6 +6,6 @@ use Rattle.report_subject.proofs.put_subject.Goals as goal
 pub returns : goal.returns
 unfolding octets
 returns c =
-        let a = c.args in
+    let a = c.args in
     subject_puts a.receiver.now a.policy_domain.now a.id.now a.out.now c.put-first.ensures c.put_lower_then-second.ensures
     c.put_lower_then-last.ensures c.put_then.ensures

@@ -5,4 +5,4 @@ use Rattle.report_texts.proofs.put_entity.Goals as goal
 pub returns : goal.returns
 unfolding octets
 returns c =
-        rw (c.entity_number.ensures, ← c.find_piece.ensures) c.put.ensures
+    rw (c.entity_number.ensures, ← c.find_piece.ensures) c.put.ensures

@@ -13,10 +13,10 @@ loop-i-init c = (omega arith, puts_nothing c.args.out.now c.args.at)
 
 pub loop-i-preserved : goal.loop-i-preserved
 loop-i-preserved c =
-        let a = c.args in
+    let a = c.args in
     (omega arith, rw (one_more a.text.now c.loop-i.i (omega arith)) (puts_both _ _ a.out.now a.at c.loop-i.invariant.1 c.put_entity-next.ensures))
 
 pub returns : goal.returns
 returns c =
-        let a = c.args in
+    let a = c.args in
     puts_both _ _ a.out.now a.at (rw (all_of a.text.now c.loop-i.i (omega arith)) at c.loop-i.invariant.1) c.put.ensures

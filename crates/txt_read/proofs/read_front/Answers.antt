@@ -25,6 +25,6 @@ returns-then-bytes-n c =
 pub returns : goal.returns
 unfolding size_of
 returns c =
-        let t = c.args.bytes.now in
+    let t = c.args.bytes.now in
     rw (c.wide.ensures.0, c.wide-2.ensures.0)
     (record_front t (omega arith) (simp (eq-eqb _ _ c.if-bytes-ne84.false, eq-eqb _ _ c.if-bytes-ne88.false)) (omega (arith, c.wide.ensures.0, c.wide-2.ensures.0)))

@@ -18,7 +18,7 @@ returns-then-same_end c =
 pub returns : goal.returns
 unfolding found_in reached_in summary_in
 returns c =
-        let a = c.args in
+    let a = c.args in
     let test = c.same_end in
     ap (λ (x : Summary). over (just x))
     (suffix_above a.d.now a.at.begin.0 a.at.wider.0 (found_in a.d.now a.last) a.settings test.result test.ensures c.if-same_end.false _ c.choose.ensures)

@@ -4,5 +4,5 @@ use Rattle.walk_end.proofs.same_end.Goals as goal
 
 pub returns : goal.returns
 returns c =
-        let a = c.args in
+    let a = c.args in
     same_ends a.d.now a.a.0 a.b.0 _ _ c.clip.ensures c.clip-2.ensures

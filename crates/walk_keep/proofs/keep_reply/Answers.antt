@@ -53,7 +53,7 @@ overflow_cast-code c = omega (arith, c.encode-code.ensures, reply_small c.args.r
 
 pub put-requires : goal.put-requires
 put-requires c =
-        let a = c.args in
+    let a = c.args in
     has_room (length a.kept.now) a.count c.if-kept-count.false
 
 pub returns : goal.returns

@@ -25,7 +25,7 @@ returns-in-Over c = rw c.in-Over.is at (after (goal.at.returns-in-Over c).After-
 pub returns-in-On : goal.returns-in-On
 unfolding turned_in
 returns-in-On c =
-        let a = c.args in
+    let a = c.args in
     let β = kept_answers a.domains.now a.count a.kept.now in
     reaches_from β a.d.now _ c.find_starts-starts.ensures _ _ _ c.reach_from.ensures
     ∙ rw c.in-On.is at (after (goal.at.returns-in-On c).After-turn)

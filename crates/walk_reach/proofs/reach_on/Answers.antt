@@ -12,12 +12,12 @@ use Rattle.walk_reach.proofs.reach_on.Goals as goal
 
 pub overflow_sub-later : goal.overflow_sub-later
 overflow_sub-later c =
-        let d = c.args.d.now in
+    let d = c.args.d.now in
     omega (arith, targets_counted d _ c.find_starts-starts.ensures _ c.count_targets-later.ensures, some_target d)
 
 pub returns : goal.returns
 returns c =
-        let a = c.args in
+    let a = c.args in
     let β = kept_answers a.domains.now a.count a.kept.now in
     let pass = c.find_starts-starts.ensures in
     let number = targets_counted a.d.now _ pass _ c.count_targets-later.ensures in

@@ -38,7 +38,7 @@ loop-more-init c = refl
 pub returns-in-Over : goal.returns-in-Over
 unfolding turned_in
 returns-in-Over c =
-        rw (← clipped (goal.at.returns-in-Over c).After-smaller-more) (sym (rw c.in-Over.is at (after (goal.at.returns-in-Over c).After-step)))
+    rw (← clipped (goal.at.returns-in-Over c).After-smaller-more) (sym (rw c.in-Over.is at (after (goal.at.returns-in-Over c).After-step)))
 
 pub loop-more-preserved : goal.loop-more-preserved
 unfolding turned_in
@@ -46,7 +46,7 @@ loop-more-preserved c = rw c.in-On.is at (after (goal.at.loop-more-preserved c).
 
 pub returns : goal.returns
 returns c =
-        let a = c.args in
+    let a = c.args in
     let m = c.loop-more in
     let β = kept_answers a.domains.now a.count a.kept.now in
     let ended = placed_end β a.d.now a.starts.begins (found_in a.d.now m.last) m.more (omega arith) in

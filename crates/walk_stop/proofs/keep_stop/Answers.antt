@@ -16,6 +16,5 @@ returns-in-Nothing c =
 pub returns-in-Record : goal.returns-in-Record
 unfolding stop_in last_in is_set
 returns-in-Record c =
-    let known = c.last-1 in
     let s = c.args.s in
-    λ i. record { last = (ap (Applicable.Record known.given.0.0) (ap settings_of c.encode_settings.ensures.0 ∙ settings_back _) ∙ sym known.given.1) i; target = s.target; more = s.more }
+    λ i. record { last = (ap (Applicable.Record c.in-Record.begin) (ap settings_of c.encode_settings.ensures.0 ∙ settings_back _) ∙ sym c.in-Record.is) i; target = s.target; more = s.more }

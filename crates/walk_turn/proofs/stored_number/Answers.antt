@@ -10,7 +10,7 @@ use Rattle.walk_turn.proofs.stored_number.Goals as goal
 pub returns-then-place-gt253 : goal.returns-then-place-gt253
 unfolding reached_in progress_of
 returns-then-place-gt253 c =
-        let a = c.args in
+    let a = c.args in
     rw c.in-Done.is (stores_past a.d.now c.in-Done.o _ c.clip-place.ensures c.if-place-gt253.true)
 
 pub returns-in-Stops : goal.returns-in-Stops
@@ -24,5 +24,5 @@ returns-in-Failed c = rw c.in-Failed.is (stores_failed c.args.d.now)
 pub returns-else-place-gt253 : goal.returns-else-place-gt253
 unfolding reached_in progress_of
 returns-else-place-gt253 c =
-        let a = c.args in
+    let a = c.args in
     rw c.in-Done.is (stores_within a.d.now c.in-Done.o _ c.clip-place.ensures c.if-place-gt253.false)

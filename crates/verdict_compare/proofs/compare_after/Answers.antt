@@ -1,0 +1,93 @@
+-- `verdict_compare::compare_after` meets its contract.
+use mathlib.Core.Path.{◌≡◌, refl, ap, sym, ◌∙◌, subst}
+use mathlib.Core.List.{List}
+use Prim.Native.Nat.{ℕ, ◌+◌, ◌<◌}
+use native.Mathlib.Omega.{arith}
+use Rattle.alignment_stored.specs.code.Stored.{slot}
+use Rattle.walk_known.specs.code.Kept.{kept_answers}
+use Rattle.walk_progress.specs.code.Stops.{reached_in}
+use Rattle.verdict_cursor.specs.code.Standing.{NoneFrom, given_count}
+use Rattle.verdict_cursor.proofs.PassedLaws.{none_set}
+use Rattle.verdict_pass.specs.code.Passing.{passed_by, passed_in}
+use Rattle.verdict_pass.proofs.PassingLaws.{passed_short}
+use Rattle.alignment_stored.proofs.StoredLaws.{slot_size}
+use Rattle.verdict_compare.proofs.ComparingLaws.{comparing, after_walk, compares_same, compares_after, passed_on, stopped, stopped_only}
+use Rattle.verdict_compare.proofs.compare_after.Goals as goal
+use Rattle.verdict_compare.proofs.compare_after.Goals.{After-pass, Else-smaller-walk}
+
+-- this walk's identifier
+own : (v : After-pass) →
+    let a = v.args in
+    let d = slot a.domains.now a.numbers.now a.walk in
+    passed_in d v.pass.result ≡ passed_by d (reached_in d a.w)
+own v =
+    let a = v.args in
+    rw v.slot.ensures at v.pass.ensures
+    ∙ passed_short (slot a.domains.now a.numbers.now a.walk) _ (slot_size a.domains.now a.numbers.now a.walk)
+
+-- an identifier has it
+first : (v : Else-smaller-walk) → v.args.walk < 1 → ⊥
+first v h = omega (arith, v.if-walk-lt1.false)
+
+last : (v : Else-smaller-walk) →
+    let a = v.args in
+    given_count a.domains.now a.numbers.now a.t < a.walk → ⊥
+unfolding given_count
+last v h = omega (arith, h, v.if-smaller-walk.false, v.smaller.ensures)
+
+pub returns-then-walk-lt1 : goal.returns-then-walk-lt1
+returns-then-walk-lt1 c = record {
+  given = λ h k. absurd (omega (arith, c.if-walk-lt1.true));
+  none = λ h. (c.judged.ensures, refl);
+  past = λ h. (c.judged.ensures, refl);
+}
+
+pub returns-then-smaller-walk : goal.returns-then-smaller-walk
+unfolding given_count
+returns-then-smaller-walk c = record {
+  given = λ h k. absurd (omega (arith, k, c.if-smaller-walk.true, c.smaller.ensures));
+  none = λ h. (c.judged-then-smaller-walk.ensures, refl);
+  past = λ h. (c.judged-then-smaller-walk.ensures, refl);
+}
+
+pub store-requires : goal.store-requires
+unfolding given_count
+store-requires c =
+    omega (arith, c.store-arg-1.given.0.1, c.if-smaller-walk.false, c.smaller.ensures)
+
+pub returns-in-Stops : goal.returns-in-Stops
+returns-in-Stops c =
+    let a = c.args in
+    let β = kept_answers a.domains.now a.count a.kept.now in
+    let stop = c.stop-1.given in
+    record {
+      given = λ h k. compares_after a.domains.now a.numbers.now a.t β a.ruling a.stored.now a.walk a.w _ _
+          (rw c.identifier.ensures
+          (record {
+            place = stopped a.domains.now a.numbers.now a.t β a.ruling a.stored.now a.walk h k stop.0.0
+                ∙ ap (after_walk a.domains.now a.numbers.now a.t β a.ruling a.stored.now a.walk) (rw stop.1 at (own (goal.at.returns-in-Stops c).After-pass));
+            only = λ z. stopped_only a.domains.now a.numbers.now a.t β a.ruling a.stored.now a.walk h k stop.0.0 z;
+          }));
+      none = λ h. absurd (first (goal.at.returns-in-Stops c).Else-smaller-walk h);
+      past = λ h. absurd (last (goal.at.returns-in-Stops c).Else-smaller-walk h);
+    }
+
+pub returns-in-Passes : goal.returns-in-Passes
+returns-in-Passes c =
+    let a = c.args in
+    let β = kept_answers a.domains.now a.count a.kept.now in
+    let number = c.number-1.given in
+    record {
+      given = λ h k.
+          let on = compares_same a.domains.now a.numbers.now a.t β a.ruling _ _ _ {c = a.walk + 1} c.compare.ensures (omega (arith, k)) in
+          compares_after a.domains.now a.numbers.now a.t β a.ruling a.stored.now a.walk a.w _ _
+          (record {
+            place = on.place
+                ∙ ap (λ (l : List ℕ). comparing a.domains.now a.numbers.now a.t β a.ruling l (a.walk + 1)) c.store.ensures
+                ∙ passed_on a.domains.now a.numbers.now a.t β a.ruling a.stored.now a.walk h (omega (arith, c.store-arg-1.given.0.1, c.if-smaller-walk.false, c.smaller.ensures)) number.0.0
+                ∙ ap (after_walk a.domains.now a.numbers.now a.t β a.ruling a.stored.now a.walk) (rw number.1 at (own (goal.at.returns-in-Passes c).After-pass));
+            only = λ z. on.only (subst (NoneFrom (a.walk + 1)) (sym c.store.ensures) (none_set a.stored.now a.walk number.0.0 z));
+          });
+      none = λ h. absurd (first (goal.at.returns-in-Passes c).Else-smaller-walk h);
+      past = λ h. absurd (last (goal.at.returns-in-Passes c).Else-smaller-walk h);
+    }
