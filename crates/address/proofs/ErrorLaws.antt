@@ -6,7 +6,8 @@ use mathlib.Core.Option.{Option, none as nothing, some as just, map}
 use Prim.Native.Nat.{ℕ, ◌+◌}
 use lib.Dec.{leb}
 use lib.ListN.{length}
-use Rattle.octets.specs.Octets.{Octets, any, all, same, if◌then◌else◌}
+use Rattle.std.specs.Prelude.{if◌then◌else◌}
+use Rattle.octets.specs.Octets.{Octets, any, all, same}
 use Rattle.octets.proofs.ListLaws.{any_append}
 use Rattle.lookup.specs.Lookup.{Name, Lookups, done, ask, look_up, reading, ◌>>=◌, Answers, find, needs, has, run, run_over, Grown, start, grow}
 use Rattle.lookup.proofs.RunLaws.{find_append, find_new, run_known, run_open, needs_injective, has≢needs}

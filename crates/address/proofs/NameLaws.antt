@@ -8,7 +8,8 @@ use native.Mathlib.Omega.{arith}
 use lib.Dec.{leb}
 use borrow.Author.Tests.{le-leb, lt-leb}
 use lib.ListN.{length, length-append, length-map, length-drop}
-use Rattle.octets.specs.Octets.{octets, is_nothing, same, any, if◌then◌else◌, lower}
+use Rattle.std.specs.Prelude.{if◌then◌else◌}
+use Rattle.octets.specs.Octets.{octets, is_nothing, same, any, lower}
 use Rattle.octets.proofs.ListLaws.{neither, any_append}
 use Rattle.octets.proofs.TextLaws.{same_uneven, same_self, true→T}
 use Rattle.lookup.specs.Lookup.{Name, Lookups, done, look_up, reading, ◌>>=◌, path, value, member, once, list}

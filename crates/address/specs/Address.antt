@@ -1,7 +1,7 @@
 -- Did the outside address agree? (document 02, Ask 11; RFC 9990, section 4)
-use Rattle.std.specs.Prelude.{List, [], ◌∷◌, ◌++◌, Bool, true, false, ◌&&◌, not, ℕ, ◌+◌, eqb, leb, length, take}
+use Rattle.std.specs.Prelude.{List, [], ◌∷◌, ◌++◌, Bool, true, false, ◌&&◌, not, ℕ, ◌+◌, eqb, leb, length, take, if◌then◌else◌}
 use Rattle.std.proofs.Math.Option.{Option, none as nothing, some as just}
-use Rattle.octets.specs.Octets.{Octets, octets, if◌then◌else◌, all, one_of, same, same_text, lower, split, trim}
+use Rattle.octets.specs.Octets.{Octets, octets, all, one_of, same, same_text, lower, split, trim}
 use Rattle.lookup.specs.Lookup.{Name, Lookups, done, look_up, reading, ◌>>=◌}
 use Rattle.domain.specs.Domain.{Domain, without_dot, is_domain}
 use Rattle.policy.specs.declared.Reading.{Reading}

@@ -7,7 +7,8 @@ use Prim.Native.Nat.{ℕ, ◌+◌, ◌≤◌, ◌<◌, min}
 use native.Mathlib.Omega.{arith}
 use lib.Dec.{ltb}
 use lib.ListN.{length}
-use Rattle.octets.specs.Octets.{Octets, is_set, if◌then◌else◌}
+use Rattle.std.specs.Prelude.{if◌then◌else◌}
+use Rattle.octets.specs.Octets.{Octets, is_set}
 use Rattle.octets.specs.Refusing.{OrRefused, ok, not_ok, refusal}
 use Rattle.octets.specs.declared.Refusal.{Refusal}
 use Rattle.lookup.specs.Lookup.{Name, Standing, needs, has}

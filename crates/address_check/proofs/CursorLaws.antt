@@ -7,7 +7,8 @@ use Prim.Native.Nat.{◌+◌, ◌<◌, ◌≤◌}
 use native.Mathlib.Omega.{arith}
 use lib.Dec.{leb}
 use lib.ListN.{length, drop, length-drop}
-use Rattle.octets.specs.Octets.{if◌then◌else◌, same}
+use Rattle.std.specs.Prelude.{if◌then◌else◌}
+use Rattle.octets.specs.Octets.{same}
 use Rattle.lookup.specs.Lookup.{Name, Lookups, done, ask, reading, ◌>>=◌, Answers, find, needs, has, run, run_over}
 use Rattle.lookup.specs.code.Following.{Follows}
 use Rattle.lookup.proofs.RunLaws.{run_same, run_bind, onward, needs_injective, has≢needs}

@@ -8,7 +8,8 @@ use native.Mathlib.Omega.{arith}
 use lib.Dec.{leb, ltb}
 use lib.ListN.{length, length-append}
 use borrow.Author.Tests.{lt-ltb}
-use Rattle.octets.specs.Octets.{Octets, lower, same_text, trim, if◌then◌else◌}
+use Rattle.std.specs.Prelude.{if◌then◌else◌}
+use Rattle.octets.specs.Octets.{Octets, lower, same_text, trim}
 use Rattle.octets.specs.Refusing.{◌>>=◌, OrRefused, ok, not_ok, refusal, refuse_if, or_refuse}
 use Rattle.octets.proofs.RefusingLaws.{refuse_if_ok, or_refuse_ok}
 use Rattle.octets.proofs.TextLaws.{flag_unset, lower_lower}

@@ -1,8 +1,8 @@
 // The next step of a check, and its result.
 #![tactic(auto)]
 
-ghost use Rattle.std.specs.Prelude.{◌≡◌, [], ◌+◌, min};
-ghost use Rattle.octets.specs.Octets.{if◌then◌else◌, is_set};
+ghost use Rattle.std.specs.Prelude.{◌≡◌, [], ◌+◌, min, if◌then◌else◌};
+ghost use Rattle.octets.specs.Octets.{is_set};
 ghost use Rattle.asking.specs.Asking.{given};
 ghost use Rattle.address.specs.Checks.{next, result};
 ghost use Rattle.address_check.specs.Promises.{DoesCheck};

@@ -6,7 +6,8 @@ use mathlib.Core.Option.{none as nothing, some as just}
 use Prim.Native.Nat.{ℕ, ◌+◌}
 use native.Mathlib.Omega.{arith}
 use lib.ListN.{length, length-append}
-use Rattle.octets.specs.Octets.{Octets, if◌then◌else◌, is_empty, all, same}
+use Rattle.std.specs.Prelude.{if◌then◌else◌}
+use Rattle.octets.specs.Octets.{Octets, is_empty, all, same}
 use Rattle.domain.specs.Domain.{Domain}
 use Rattle.policy.specs.declared.Reading.{Reading}
 use Rattle.policy.specs.Records.{read_policy, rua_text, rua_begin, rua_length}

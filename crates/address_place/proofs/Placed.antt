@@ -9,7 +9,8 @@ use lib.Dec.{leb}
 use lib.ListN.{length, take, drop, length-append, length-drop}
 use lib.Seq.{drop_at, drop-drop, drop-append-le, take-append-le}
 use borrow.Author.Tests.{le-leb}
-use Rattle.octets.specs.Octets.{Octets, if◌then◌else◌, all, same, part_of}
+use Rattle.std.specs.Prelude.{if◌then◌else◌}
+use Rattle.octets.specs.Octets.{Octets, all, same, part_of}
 use Rattle.octets.specs.Lent.{over}
 use Rattle.octets.proofs.TextLaws.{true→T}
 use Rattle.domain.specs.Domain.{Domain}

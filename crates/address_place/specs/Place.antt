@@ -1,8 +1,8 @@
 -- What an answer at the confirming name says, and where what replaces the address stands (document 02, Ask 11).
-use Rattle.std.specs.Prelude.{◌≡◌, Bool, true, false, ◌+◌, ◌≤◌, length}
+use Rattle.std.specs.Prelude.{◌≡◌, Bool, true, false, ◌+◌, ◌≤◌, length, if◌then◌else◌}
 use mathlib.Core.List.{List, ◌∷◌, ◌++◌, flatten}
 use Rattle.std.proofs.Math.Option.{Option, none as nothing, some as just}
-use Rattle.octets.specs.Octets.{Octets, if◌then◌else◌, is_empty, is_nothing, all, same, split, part_of}
+use Rattle.octets.specs.Octets.{Octets, is_empty, is_nothing, all, same, split, part_of}
 use Rattle.domain.specs.Domain.{Domain}
 use Rattle.policy.specs.declared.Bounds.{Bounds}
 use Rattle.policy.specs.declared.Reading.{Reading}

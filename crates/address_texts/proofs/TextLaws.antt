@@ -10,7 +10,8 @@ use lib.Dec.{leb}
 use lib.ListN.{length, take, drop, get_or}
 use lib.Seq.{drop-drop, drop_at, take_at}
 use borrow.Author.Tests.{leb-true}
-use Rattle.octets.specs.Octets.{Octets, if◌then◌else◌, part_of, all, same}
+use Rattle.std.specs.Prelude.{if◌then◌else◌}
+use Rattle.octets.specs.Octets.{Octets, part_of, all, same}
 use Rattle.octets.specs.Lent.{over}
 use Rattle.octets.specs.Refusing.{refusal}
 use Rattle.octets.specs.declared.Refusal.{Refusal}

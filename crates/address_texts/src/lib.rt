@@ -1,8 +1,8 @@
 // What an answer says at the confirming name, with its texts left in the scratch.
 #![tactic(auto)]
 
-ghost use Rattle.std.specs.Prelude.{◌≡◌, true, ◌≤◌, length};
-ghost use Rattle.octets.specs.Octets.{lower, if◌then◌else◌};
+ghost use Rattle.std.specs.Prelude.{◌≡◌, true, ◌≤◌, length, if◌then◌else◌};
+ghost use Rattle.octets.specs.Octets.{lower};
 ghost use Rattle.txt.specs.Answers.{answer_of, joined};
 ghost use Rattle.txt_read.specs.code.Steps.{is_there, or_empty};
 ghost use Rattle.address.specs.declared.Agreement.{Agreement};

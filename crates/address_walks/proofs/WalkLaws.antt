@@ -6,7 +6,7 @@ use native.Mathlib.Omega.{arith}
 use lib.Dec.{leb}
 use lib.ListN.{length}
 use borrow.Author.Tests.{le-leb, lt-leb}
-use Rattle.octets.specs.Octets.{if◌then◌else◌}
+use Rattle.std.specs.Prelude.{if◌then◌else◌}
 use Rattle.lookup.specs.Lookup.{Answers}
 use Rattle.domain.specs.Domain.{Domain}
 use Rattle.txt.specs.declared.Reply.{Reply}

@@ -5,7 +5,8 @@ use mathlib.Core.Bool.{true, false}
 use mathlib.Core.Option.{Option, none as nothing, some as just, map}
 use Prim.Native.Nat.{suc}
 use lib.ListN.{length}
-use Rattle.octets.specs.Octets.{if◌then◌else◌, same}
+use Rattle.std.specs.Prelude.{if◌then◌else◌}
+use Rattle.octets.specs.Octets.{same}
 use Rattle.lookup.specs.Lookup.{Name, Lookups, reading, Answers, names, find, run_over}
 use Rattle.lookup.proofs.RunLaws.{run_same}
 use Rattle.lookup.proofs.ReadingLaws.{run_reading}

@@ -6,7 +6,8 @@ use mathlib.Core.Option.{Option, none as nothing}
 use Prim.Native.Nat.{ℕ, zero, suc, ◌-◌, ◌<◌}
 use native.Mathlib.Omega.{arith}
 use lib.ListN.{length, get_or}
-use Rattle.octets.specs.Octets.{any, if◌then◌else◌}
+use Rattle.std.specs.Prelude.{if◌then◌else◌}
+use Rattle.octets.specs.Octets.{any}
 use Rattle.lookup.specs.Lookup.{Name, Lookups, done, ◌>>=◌, look_up, find, needs, run, run_over}
 use Rattle.lookup.proofs.RunLaws.{run_bind, onward}
 use Rattle.lookup.proofs.ReadingLaws.{run_reading}

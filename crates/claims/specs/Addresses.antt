@@ -1,8 +1,8 @@
 -- What is claimed of address checks: document 02, Ask 11.
-use Rattle.std.specs.Prelude.{◌≡◌, true, false, ◌&&◌, ◌+◌, ◌≤◌, ◌<◌, eqb, leb, length}
+use Rattle.std.specs.Prelude.{◌≡◌, true, false, ◌&&◌, ◌+◌, ◌≤◌, ◌<◌, eqb, leb, length, if◌then◌else◌}
 use mathlib.Core.List.{List, [], ◌∷◌, ◌++◌, flatten}
 use Rattle.std.proofs.Math.Option.{some as just}
-use Rattle.octets.specs.Octets.{Octets, if◌then◌else◌, is_empty, all, any, same, part_of}
+use Rattle.octets.specs.Octets.{Octets, is_empty, all, any, same, part_of}
 use Rattle.octets.specs.Refusing.{ok}
 use Rattle.octets.specs.declared.Refusal.{Refusal}
 use Rattle.lookup.specs.Lookup.{Name, value, member, once, list, has}

@@ -9,7 +9,8 @@ use lib.Dec.{eqb, leb}
 use lib.ListN.{length, drop, get_or}
 use lib.Seq.{drop-cons}
 use borrow.Author.Tests.{le-leb, eqb-true}
-use Rattle.octets.specs.Octets.{Octets, if◌then◌else◌, is_empty, all, onto_first, split, made_of}
+use Rattle.std.specs.Prelude.{if◌then◌else◌}
+use Rattle.octets.specs.Octets.{Octets, is_empty, all, onto_first, split, made_of}
 use Rattle.octets.proofs.Computing.{octets_computes}
 use Rattle.domain.specs.Domain.{Domain, domain_octet, labels, good_label, first_bad, label_count}
 use Rattle.domain_rule.specs.code.Scanning.{class_code, some_label, short_label}

@@ -8,7 +8,8 @@ use native.Mathlib.Omega.{arith}
 use lib.Dec.{leb}
 use lib.ListN.{length}
 use borrow.Author.Tests.{lt-ltb}
-use Rattle.octets.specs.Octets.{Octets, same, same_text, if◌then◌else◌}
+use Rattle.std.specs.Prelude.{if◌then◌else◌}
+use Rattle.octets.specs.Octets.{Octets, same, same_text}
 use Rattle.octets.specs.Refusing.{OrRefused, ok, not_ok, ◌>>=◌, refusal, refuse_if}
 use Rattle.octets.specs.Lent.{written_if, left_if}
 use Rattle.lookup.specs.Lookup.{Name, Answers, names, find, Standing, needs, has, run_over}

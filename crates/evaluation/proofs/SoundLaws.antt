@@ -5,7 +5,7 @@ use mathlib.Core.Option.{Option, none as nothing, some as just}
 use Prim.Native.Nat.{suc, ◌≤◌}
 use native.Mathlib.Omega.{arith}
 use lib.ListN.{length}
-use Rattle.octets.specs.Octets.{if◌then◌else◌}
+use Rattle.std.specs.Prelude.{if◌then◌else◌}
 use Rattle.lookup.specs.Lookup.{Name, list}
 use Rattle.lookup.proofs.BoundLaws.{all_in_self, once_at_most}
 use Rattle.domain.specs.Domain.{Domain}

@@ -1,7 +1,7 @@
 -- What the numbers that cross to programs in other languages stand for. Each is read as the evaluation and the answers of the calls, so that a call
 -- by numbers has the promise of the call itself.
-use Rattle.std.specs.Prelude.{◌≡◌, List, [], ◌∷◌, Bool, true, false, ℕ, eqb, get_or}
-use Rattle.octets.specs.Octets.{Octets, if◌then◌else◌, is_set}
+use Rattle.std.specs.Prelude.{◌≡◌, List, [], ◌∷◌, Bool, true, false, ℕ, eqb, get_or, if◌then◌else◌}
+use Rattle.octets.specs.Octets.{Octets, is_set}
 use Rattle.octets.specs.Refusing.{OrRefused, refusal}
 use Rattle.octets.specs.declared.Refusal.{Refusal}
 use Rattle.octets.specs.declared.Written.{Written}

@@ -1,7 +1,7 @@
 -- The grammar of the Identity-Alignment field, a line of ABNF each (document 02, Ask 12): "Read the field by the grammar in document 003 with a closing
 -- CR LF added, comments and folded blanks of RFC 5322 included but not its obsolete forms".
-use Rattle.std.specs.Prelude.{[], ◌∷◌, Bool, true, false, ℕ, zero, suc, ◌-◌, length}
-use Rattle.octets.specs.Octets.{Octets, octets, if◌then◌else◌, between}
+use Rattle.std.specs.Prelude.{[], ◌∷◌, Bool, true, false, ℕ, zero, suc, ◌-◌, length, if◌then◌else◌}
+use Rattle.octets.specs.Octets.{Octets, octets, between}
 use Rattle.grammar.specs.Grammar.{Grammar, none, empty, range, ◌then◌, ◌or◌, many}
 
 -- ------------------------------------------------------------------ RFC 5234

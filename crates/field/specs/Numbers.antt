@@ -1,6 +1,6 @@
 -- What a reader of the field answers: what is read, and the same by numbers, for programs in other languages.
-use Rattle.std.specs.Prelude.{◌≡◌, Bool, not, ℕ, eqb}
-use Rattle.octets.specs.Octets.{Octets, if◌then◌else◌, is_set, flag}
+use Rattle.std.specs.Prelude.{◌≡◌, Bool, not, ℕ, eqb, if◌then◌else◌}
+use Rattle.octets.specs.Octets.{Octets, is_set, flag}
 use Rattle.octets.specs.Refusing.{OrRefused, ok, not_ok, refusal}
 use Rattle.field.specs.declared.FieldRead.{FieldRead}
 use Rattle.field.specs.declared.FieldNumbers.{FieldNumbers}

@@ -6,7 +6,7 @@ use Prim.Native.Nat.{ℕ, ◌<◌}
 use native.Mathlib.Omega.{arith}
 use lib.Dec.{eqb, leb}
 use lib.ListN.{get_or}
-use Rattle.octets.specs.Octets.{if◌then◌else◌}
+use Rattle.std.specs.Prelude.{if◌then◌else◌}
 use Rattle.field_states.specs.declared.Side.{Side}
 use Rattle.field_states.specs.declared.Blanks.{Blanks}
 use Rattle.field_states.specs.declared.State.{State}

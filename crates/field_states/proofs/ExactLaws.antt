@@ -9,7 +9,8 @@ use native.Mathlib.Omega.{arith}
 use lib.Dec.{leb}
 use lib.ListN.{drop}
 use borrow.Author.Tests.{leb-true, leb-false}
-use Rattle.octets.specs.Octets.{Octets, octets, if◌then◌else◌, is_nothing}
+use Rattle.std.specs.Prelude.{if◌then◌else◌}
+use Rattle.octets.specs.Octets.{Octets, octets, is_nothing}
 use Rattle.octets.specs.Refusing.{OrRefused, ok, not_ok, refusal}
 use Rattle.grammar.specs.Grammar.{Grammar, none, empty, ◌then◌, ◌or◌, Text}
 use Rattle.grammar.specs.code.Finding.{has_empty, has_text, fault_from, fault}

@@ -8,7 +8,8 @@ use native.Mathlib.Omega.{arith}
 use lib.Dec.{eqb, eqb-suc-zero}
 use lib.ListN.{length, drop, length-append}
 use borrow.Author.Tests.{eqb-true, le-leb}
-use Rattle.octets.specs.Octets.{Octets, octets, if◌then◌else◌, any, one_of, between, lower_octet, is_blank}
+use Rattle.std.specs.Prelude.{if◌then◌else◌}
+use Rattle.octets.specs.Octets.{Octets, octets, any, one_of, between, lower_octet, is_blank}
 use Rattle.grammar.specs.Grammar.{Grammar, none, empty, ◌then◌, ◌or◌, many, Text}
 use Rattle.grammar.specs.code.Finding.{has_empty, has_text}
 use Rattle.grammar.proofs.SameLaws.{same_empty}

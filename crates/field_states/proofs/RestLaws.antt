@@ -9,7 +9,8 @@ use native.Mathlib.Numerals.{add-one}
 use lib.Dec.{eqb, eqb-suc-zero}
 use lib.ListN.{drop}
 use borrow.Author.Tests.{eqb-true, eqb-false, eq-eqb}
-use Rattle.octets.specs.Octets.{octets, if◌then◌else◌, any, one_of, between, lower_octet, is_blank}
+use Rattle.std.specs.Prelude.{if◌then◌else◌}
+use Rattle.octets.specs.Octets.{octets, any, one_of, between, lower_octet, is_blank}
 use Rattle.grammar.specs.Grammar.{Grammar, none, empty, ◌then◌, ◌or◌, many}
 use Rattle.grammar.specs.code.Finding.{has_empty}
 use Rattle.grammar.proofs.SameLaws.{Same, same_refl, same_sym, then_none, On, Dead, on_from, on_to, dead_none, dead_empty, on_range, dead_range, on_one, on_left, on_right, dead_then}

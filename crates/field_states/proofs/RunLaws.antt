@@ -9,7 +9,8 @@ use native.Mathlib.Numerals.{add-one}
 use lib.Dec.{leb}
 use lib.ListN.{length, take, drop, length-take}
 use borrow.Author.Tests.{leb-true, leb-false}
-use Rattle.octets.specs.Octets.{Octets, octets, if◌then◌else◌, is_nothing}
+use Rattle.std.specs.Prelude.{if◌then◌else◌}
+use Rattle.octets.specs.Octets.{Octets, octets, is_nothing}
 use Rattle.octets.specs.Refusing.{OrRefused, not_ok, refusal}
 use Rattle.grammar.specs.Grammar.{Grammar, none, empty, ◌or◌}
 use Rattle.grammar.specs.code.Finding.{has_empty, has_text, fault_from, fault, shortest_text_from, shortest_text}

@@ -3,7 +3,8 @@ use mathlib.Core.Path.{◌≡◌, refl}
 use mathlib.Core.Logic.{◌⊎◌, inl, inr}
 use mathlib.Core.Bool.{Bool, true, false}
 use Prim.Native.Nat.{ℕ}
-use Rattle.octets.specs.Octets.{octets, if◌then◌else◌}
+use Rattle.std.specs.Prelude.{if◌then◌else◌}
+use Rattle.octets.specs.Octets.{octets}
 use Rattle.grammar.specs.Grammar.{Grammar, none, empty, ◌then◌, ◌or◌, many, Text}
 use Rattle.grammar.proofs.SameLaws.{Among, Same, same_refl, same_sym, ◌⨾◌, then_among, then_same, or_same, assoc, or_then, then_or, then_empty, then_none, or_none, or_comm, or_assoc, or_among_same, many_then, many_among}
 use Rattle.field.specs.Field.{optional, one, literal, CRLF, CFWS, heading, dkim, spf, dmarc_method, comma, closing, id_align, repeating}

@@ -6,7 +6,8 @@ use native.Mathlib.Omega.{arith}
 use lib.ListN.{length, drop, get_or, drop_of_length-le}
 use lib.Seq.{drop-cons}
 use borrow.Author.Tests.{eq-eqb, ne_eqb}
-use Rattle.octets.specs.Octets.{Octets, octets, if◌then◌else◌, lower_octet}
+use Rattle.std.specs.Prelude.{if◌then◌else◌}
+use Rattle.octets.specs.Octets.{Octets, octets, lower_octet}
 use Rattle.field_states.specs.declared.Word.{Word}
 use Rattle.field_states.specs.declared.State.{State}
 use Rattle.field_states.specs.declared.Spelled.{Spelled}

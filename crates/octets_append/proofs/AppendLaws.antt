@@ -10,7 +10,8 @@ use lib.ListN.{length, take, drop, length-append, length-take, length-drop, take
 use lib.Seq.{length-take-le, take-take, take_at, take-append_seam, take-append-le, drop_at, drop-append-le, drop-drop, drop-length}
 use borrow.Author.Tests.{le-leb, lt-leb, leb-true, leb-false}
 use borrow.Rule.Slice.PartMut.{put_mid}
-use Rattle.octets.specs.Octets.{Octets, if◌then◌else◌}
+use Rattle.std.specs.Prelude.{if◌then◌else◌}
+use Rattle.octets.specs.Octets.{Octets}
 use Rattle.octets.specs.Lent.{over, fits, written, left, Writes}
 use Rattle.octets.specs.Refusing.{refusal}
 use Rattle.octets.specs.declared.Written.{Written}

@@ -1,6 +1,7 @@
 -- Laws of writers that count on.
 use Rattle.std.proofs.Common.{◌≡◌, ℕ, ◌+◌, ◌%◌, ◌^◌, ◌<◌, ◌≤◌, Bool, true, false, leb, [], ◌++◌, length, take, drop, sym, refl, ap, ◌∙◌, mod-eq_of_lt, arith, length-append, length-drop, take-append-drop, length-take-le, le-leb, leb-true}
-use Rattle.octets.specs.Octets.{Octets, if◌then◌else◌}
+use Rattle.std.specs.Prelude.{if◌then◌else◌}
+use Rattle.octets.specs.Octets.{Octets}
 use Rattle.octets.specs.Lent.{over}
 use Rattle.octets_append.specs.code.Appending.{fits_at, Appends}
 use Rattle.octets_append.proofs.AppendLaws.{moved_on, appends_both}

@@ -8,7 +8,8 @@ use lib.Dec.{eqb}
 use lib.ListN.{length, drop, set, get_or, replicate}
 use lib.Seq.{get_or-set_same, get_or-set_other}
 use borrow.Author.Tests.{eq-eqb, ne_eqb, eqb-true, eqb-false, lt-ltb, le-ltb}
-use Rattle.octets.specs.Octets.{Octets, octets, if◌then◌else◌, any, same, split, front, trim_end, trim}
+use Rattle.std.specs.Prelude.{if◌then◌else◌}
+use Rattle.octets.specs.Octets.{Octets, octets, any, same, split, front, trim_end, trim}
 use Rattle.octets.proofs.ListLaws.{any_either}
 use Rattle.octets.proofs.TextLaws.{same_true}
 use Rattle.policy.specs.declared.Bounds.{Bounds}

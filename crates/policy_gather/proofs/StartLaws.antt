@@ -8,7 +8,8 @@ use native.Mathlib.Omega.{arith}
 use lib.Dec.{eqb}
 use lib.ListN.{length, drop}
 use borrow.Author.Tests.{not-false}
-use Rattle.octets.specs.Octets.{Octets, octets, if◌then◌else◌, any, same, split, front}
+use Rattle.std.specs.Prelude.{if◌then◌else◌}
+use Rattle.octets.specs.Octets.{Octets, octets, any, same, split, front}
 use Rattle.octets.proofs.PartLaws.{split_first}
 use Rattle.octets.proofs.TextLaws.{true→T}
 use Rattle.policy.specs.Tags.{Tag, later_tags, has_version, parts, repeats, repeats_name, is_record, tag_named}

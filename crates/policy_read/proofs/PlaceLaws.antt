@@ -8,7 +8,8 @@ use native.Mathlib.Omega.{arith}
 use lib.Dec.{eqb}
 use lib.ListN.{length, take, drop, length-append, length-take, length-drop}
 use lib.Seq.{take-append_seam, drop-append_seam, drop-drop}
-use Rattle.octets.specs.Octets.{Octets, if◌then◌else◌, is_empty, same, onto_first, split, trim_end, trim}
+use Rattle.std.specs.Prelude.{if◌then◌else◌}
+use Rattle.octets.specs.Octets.{Octets, is_empty, same, onto_first, split, trim_end, trim}
 use Rattle.octets.proofs.PartLaws.{split_found, split_other}
 use Rattle.policy.specs.declared.Bounds.{Bounds}
 use Rattle.policy.specs.Records.{read}

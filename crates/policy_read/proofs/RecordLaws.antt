@@ -7,7 +7,8 @@ use Prim.Native.Nat.{ℕ, ◌+◌, ◌-◌, ◌≤◌, ◌<◌}
 use native.Mathlib.Omega.{arith}
 use lib.Dec.{eqb}
 use lib.ListN.{length, take, drop}
-use Rattle.octets.specs.Octets.{Octets, octets, if◌then◌else◌, any, same, lower, split, front, after, trim_end, trim}
+use Rattle.std.specs.Prelude.{if◌then◌else◌}
+use Rattle.octets.specs.Octets.{Octets, octets, any, same, lower, split, front, after, trim_end, trim}
 use Rattle.policy.specs.declared.Bounds.{Bounds}
 use Rattle.policy.specs.declared.Mode.{Mode}
 use Rattle.policy.specs.declared.Psd.{Psd}

@@ -8,7 +8,8 @@ use native.Mathlib.Omega.{arith}
 use lib.Dec.{eqb, leb, ltb}
 use lib.ListN.{length, drop}
 use borrow.Author.Tests.{ltb-true, ltb-false, le-leb, lt-leb}
-use Rattle.octets.specs.Octets.{Octets, if◌then◌else◌, is_empty, is_letter, lower, split, front, after, is_blank, trim_end, trim}
+use Rattle.std.specs.Prelude.{if◌then◌else◌}
+use Rattle.octets.specs.Octets.{Octets, is_empty, is_letter, lower, split, front, after, is_blank, trim_end, trim}
 use Rattle.octets.proofs.PartLaws.{front_after}
 use Rattle.octets.proofs.TextLaws.{and_left, true→T, T→true}
 use Rattle.policy.specs.Tags.{named, name_and_value}

@@ -7,7 +7,8 @@ use native.Mathlib.Omega.{arith}
 use lib.Dec.{eqb}
 use lib.ListN.{length, drop, get_or}
 use borrow.Author.Tests.{eq-eqb, ne_eqb, eqb-true}
-use Rattle.octets.specs.Octets.{Octets, octets, if◌then◌else◌, any, between, is_letter, is_digit, one_of, split, front, after, trim_end, trim}
+use Rattle.std.specs.Prelude.{if◌then◌else◌}
+use Rattle.octets.specs.Octets.{Octets, octets, any, between, is_letter, is_digit, one_of, split, front, after, trim_end, trim}
 use Rattle.octets.proofs.PartLaws.{split_first, split_next}
 use Rattle.policy.specs.Reports.{scheme_octet, hex_digit, uri_octet, uri_octets, after_scheme, valid_entry, has_valid_entry}
 use Rattle.policy_reports.specs.code.UriSteps.{hex_pair, uri_step}

@@ -7,7 +7,8 @@ use native.Mathlib.Omega.{arith}
 use lib.Dec.{eqb}
 use lib.ListN.{length, drop, drop_of_length-le}
 use lib.Seq.{drop-drop}
-use Rattle.octets.specs.Octets.{Octets, if◌then◌else◌, any, same, split, front, trim}
+use Rattle.std.specs.Prelude.{if◌then◌else◌}
+use Rattle.octets.specs.Octets.{Octets, any, same, split, front, trim}
 use Rattle.octets.proofs.PartLaws.{split_first, split_next}
 use Rattle.octets.proofs.TextLaws.{same_true, true→T}
 use Rattle.policy.specs.Tags.{repeats}

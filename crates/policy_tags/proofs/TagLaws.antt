@@ -9,7 +9,8 @@ use lib.Dec.{eqb, leb}
 use lib.ListN.{length, drop, get_or, drop_of_length-le, length-append, length-drop}
 use lib.Seq.{drop-drop}
 use borrow.Author.Tests.{eq-eqb, ne_eqb, not-true}
-use Rattle.octets.specs.Octets.{Octets, octets, if◌then◌else◌, is_empty, all, same, between, is_letter, lower_octet, lower, split, front, after, is_blank, trim_end, trim}
+use Rattle.std.specs.Prelude.{if◌then◌else◌}
+use Rattle.octets.specs.Octets.{Octets, octets, is_empty, all, same, between, is_letter, lower_octet, lower, split, front, after, is_blank, trim_end, trim}
 use Rattle.octets.proofs.PartLaws.{all_front, front_fits, front_after, next_parts, split_first, split_next}
 use Rattle.octets.proofs.TextLaws.{and_left, and_right, true→T, T→true}
 use Rattle.policy.specs.Tags.{Tag, named, name_and_value, is_version, well_formed, tag_of, add_tag, tags_from, has_version, parts}

@@ -9,7 +9,8 @@ use native.Mathlib.Omega.{arith}
 use lib.Dec.{T, eqb}
 use lib.ListN.{length}
 use borrow.Author.Tests.{not-true}
-use Rattle.octets.specs.Octets.{Octets, octets, if◌then◌else◌, is_empty, all, any, one_of, same, between, is_letter, lower, split, after, is_blank, trim_end, trim}
+use Rattle.std.specs.Prelude.{if◌then◌else◌}
+use Rattle.octets.specs.Octets.{Octets, octets, is_empty, all, any, one_of, same, between, is_letter, lower, split, after, is_blank, trim_end, trim}
 use Rattle.octets.proofs.ListLaws.{any_append, neither}
 use Rattle.octets.proofs.TextLaws.{and_left, and_right, T→true, true→T, same→eq}
 use Rattle.policy.specs.Tags.{Tag, named, name_and_value, well_formed, tag_of, add_tag, tags_from, repeats, repeats_name, tag_named}

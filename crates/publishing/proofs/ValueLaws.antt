@@ -4,7 +4,8 @@ use mathlib.Core.List.{[], ◌∷◌}
 use mathlib.Core.Bool.{Bool, true, false, ◌&&◌, ◌||◌, not}
 use lib.Dec.{T, leb}
 use lib.ListN.{length}
-use Rattle.octets.specs.Octets.{Octets, if◌then◌else◌, is_empty, all, one_of, same, between, split, trim}
+use Rattle.std.specs.Prelude.{if◌then◌else◌}
+use Rattle.octets.specs.Octets.{Octets, is_empty, all, one_of, same, between, split, trim}
 use Rattle.octets.proofs.Computing.{octets_computes}
 use Rattle.octets.proofs.TextLaws.{true→T}
 use Rattle.policy.specs.Reports.{valid_entry, has_valid_entry}

@@ -1,8 +1,8 @@
 -- A policy record written from its settings and a rua text (document 02, Ask 4).
 use mathlib.Core.List.{List, [], ◌∷◌, ◌++◌, map, flatten}
-use Rattle.std.specs.Prelude.{Bool, true, false, ◌&&◌, ◌||◌, not, leb, length}
+use Rattle.std.specs.Prelude.{Bool, true, false, ◌&&◌, ◌||◌, not, leb, length, if◌then◌else◌}
 use Prim.Native.String.{String}
-use Rattle.octets.specs.Octets.{Octets, octets, if◌then◌else◌, is_empty, all, same, between, one_of, split, trim}
+use Rattle.octets.specs.Octets.{Octets, octets, is_empty, all, same, between, one_of, split, trim}
 use Rattle.octets.specs.Refusing.{◌>>=◌, OrRefused, ok, refusal, refuse_if}
 use Rattle.policy.specs.Reports.{valid_entry}
 use Rattle.policy.specs.declared.Policy.{Policy}

@@ -9,7 +9,8 @@ use native.Mathlib.Decide.{dec_le}
 use lib.Dec.{leb, ltb}
 use lib.ListN.{length, take, drop}
 use borrow.Author.Tests.{lt-ltb, ltb-false}
-use Rattle.octets.specs.Octets.{Octets, octets, any, same, same_text, is_empty, if◌then◌else◌}
+use Rattle.std.specs.Prelude.{if◌then◌else◌}
+use Rattle.octets.specs.Octets.{Octets, octets, any, same, same_text, is_empty}
 use Rattle.octets.specs.Framing.{mark_of, size_of, body_of, after_record}
 use Rattle.octets.specs.Refusing.{ok, refusal}
 use Rattle.octets.proofs.ListLaws.{any_append, neither}

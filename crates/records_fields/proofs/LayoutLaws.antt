@@ -9,7 +9,8 @@ use lib.Dec.{eqb}
 use lib.ListN.{length, drop, get_or}
 use lib.Seq.{drop-cons}
 use borrow.Author.Tests.{ne_eqb}
-use Rattle.octets.specs.Octets.{Octets, octets, same, same_text, part_of, if◌then◌else◌}
+use Rattle.std.specs.Prelude.{if◌then◌else◌}
+use Rattle.octets.specs.Octets.{Octets, octets, same, same_text, part_of}
 use Rattle.octets.specs.Framing.{mark_of, body_of, after_record}
 use Rattle.domain.specs.Domain.{without_dot}
 use Rattle.txt.specs.declared.Status.{Status}

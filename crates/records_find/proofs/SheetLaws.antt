@@ -8,7 +8,8 @@ use native.Mathlib.Omega.{arith}
 use lib.Dec.{leb, ltb}
 use lib.ListN.{length, take, drop}
 use borrow.Author.Tests.{lt-ltb}
-use Rattle.octets.specs.Octets.{Octets, octets, same, same_text, any, if◌then◌else◌, is_empty}
+use Rattle.std.specs.Prelude.{if◌then◌else◌}
+use Rattle.octets.specs.Octets.{Octets, octets, same, same_text, any, is_empty}
 use Rattle.octets.specs.Framing.{mark_of, size_of, body_of, after_record}
 use Rattle.octets.specs.Refusing.{ok, refusal}
 use Rattle.octets.proofs.FramingLaws.{body_size, body_octet}

@@ -9,7 +9,8 @@ use lib.Dec.{eqb, leb}
 use lib.ListN.{length, take, drop, get_or}
 use lib.Seq.{drop-cons, drop-length}
 use borrow.Author.Tests.{le-leb, lt-leb, eq-eqb, ne_eqb, eqb-true, eqb-false}
-use Rattle.octets.specs.Octets.{Octets, octets, same, is_empty, is_nothing, part_of, if◌then◌else◌}
+use Rattle.std.specs.Prelude.{if◌then◌else◌}
+use Rattle.octets.specs.Octets.{Octets, octets, same, is_empty, is_nothing, part_of}
 use Rattle.octets.specs.Framing.{mark_of, body_of}
 use Rattle.octets.proofs.TextLaws.{same_true}
 use Rattle.domain.specs.Domain.{without_dot, is_domain}

@@ -8,7 +8,8 @@ use lib.Dec.{eqb, ltb}
 use lib.ListN.{length, take, length-append, length-take}
 use lib.Seq.{take-take}
 use borrow.Author.Tests.{eqb-true, ltb-true}
-use Rattle.octets.specs.Octets.{if◌then◌else◌, all}
+use Rattle.std.specs.Prelude.{if◌then◌else◌}
+use Rattle.octets.specs.Octets.{all}
 use Rattle.octets.proofs.DecimalLaws.{decimal_below}
 use Rattle.policy.specs.declared.Settings.{Settings}
 use Rattle.rows.specs.declared.Seen.{Seen}

@@ -11,7 +11,8 @@ use native.Mathlib.Omega.{arith}
 use lib.Dec.{eqb, leb, ltb}
 use lib.ListN.{length, take, drop, length-append, length-take, length-drop}
 use borrow.Author.Tests.{eqb-true, leb-true, ltb-true, not-false}
-use Rattle.octets.specs.Octets.{Octets, octets, if◌then◌else◌, is_empty, is_set, all, between, lower}
+use Rattle.std.specs.Prelude.{if◌then◌else◌}
+use Rattle.octets.specs.Octets.{Octets, octets, is_empty, is_set, all, between, lower}
 use Rattle.octets.specs.Decimal.{decimal}
 use Rattle.octets.specs.Refusing.{OrRefused, ok, not_ok, refusal}
 use Rattle.octets.proofs.DecimalLaws.{decimal_below, twenty_digits}

@@ -1,9 +1,9 @@
 -- The aggregate report as XML (document 02, Ask 9): "Write the report of RFC 9990 (document 002, section 3.1.1 and appendix A) from Ask 1's rows",
 -- "elements in the schema's order". No element is written that no input gives a value to: "scope, reason and envelope_from never".
 use mathlib.Core.List.{List, [], ◌∷◌, ◌++◌, map, flatten}
-use Rattle.std.specs.Prelude.{Bool, true, false, ◌&&◌, ◌||◌, not, ℕ, eqb, leb, length, get_or}
+use Rattle.std.specs.Prelude.{Bool, true, false, ◌&&◌, ◌||◌, not, ℕ, eqb, leb, length, get_or, if◌then◌else◌}
 use Rattle.std.proofs.Math.Option.{Option, none as nothing, some as just}
-use Rattle.octets.specs.Octets.{Octets, octets, if◌then◌else◌, is_empty, is_set, all, between, lower}
+use Rattle.octets.specs.Octets.{Octets, octets, is_empty, is_set, all, between, lower}
 use Rattle.octets.specs.Decimal.{decimal}
 use Rattle.octets.specs.Refusing.{◌>>=◌, OrRefused, ok, refusal, refuse_if, or_refuse}
 use Rattle.domain.specs.Domain.{Domain, is_domain}

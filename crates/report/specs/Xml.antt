@@ -1,8 +1,8 @@
 -- Elements, entities and addresses, as the aggregate report writes them (document 02, Ask 9).
 use mathlib.Core.List.{List, [], ◌∷◌, ◌++◌, map, flatten}
-use Rattle.std.specs.Prelude.{Bool, true, false, ℕ, zero, suc, ◌+◌, ◌*◌, ◌/◌, ◌%◌, eqb, ltb, take, drop, get_or}
+use Rattle.std.specs.Prelude.{Bool, true, false, ℕ, zero, suc, ◌+◌, ◌*◌, ◌/◌, ◌%◌, eqb, ltb, take, drop, get_or, if◌then◌else◌}
 use Prim.Native.String.{String}
-use Rattle.octets.specs.Octets.{Octets, octets, if◌then◌else◌, is_empty, same}
+use Rattle.octets.specs.Octets.{Octets, octets, is_empty, same}
 use Rattle.octets.specs.Decimal.{decimal}
 
 -- "each with a start and an end tag", "no blanks or line ends between elements"

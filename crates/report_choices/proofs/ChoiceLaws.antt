@@ -9,7 +9,8 @@ use native.Mathlib.Omega.{arith}
 use lib.Dec.{eqb, leb, ltb}
 use lib.ListN.{length, take, drop, get_or}
 use borrow.Author.Tests.{eq-eqb, ne_eqb, lt-ltb, le-leb, eqb-true, eqb-false, lt-leb}
-use Rattle.octets.specs.Octets.{Octets, octets, if◌then◌else◌, is_set, flag, between}
+use Rattle.std.specs.Prelude.{if◌then◌else◌}
+use Rattle.octets.specs.Octets.{Octets, octets, is_set, flag, between}
 use Rattle.octets.proofs.TextLaws.{flag_said}
 use Rattle.parsing.specs.Reads.{Reads, done, ◌>>◌, exactly}
 use Rattle.parsing_steps.specs.Stepping.{Step, on, refused, step_of, behind}

@@ -8,7 +8,8 @@ use native.Mathlib.Omega.{arith}
 use lib.Dec.{eqb, leb, ltb}
 use lib.ListN.{length, length-append}
 use borrow.Author.Tests.{eq-eqb, ltb-true, ltb-false}
-use Rattle.octets.specs.Octets.{Octets, octets, if◌then◌else◌}
+use Rattle.std.specs.Prelude.{if◌then◌else◌}
+use Rattle.octets.specs.Octets.{Octets, octets}
 use Rattle.octets.specs.Decimal.{decimal}
 use Rattle.octets.proofs.DecimalLaws.{length_one, length_more}
 use Rattle.report.specs.Xml.{after_mark, parted}

@@ -8,7 +8,8 @@ use native.Mathlib.Omega.{arith}
 use lib.Dec.{eqb, leb, ltb}
 use lib.ListN.{length, take, drop, get_or}
 use borrow.Author.Tests.{eq-eqb, eqb-true, leb-true, le-leb}
-use Rattle.octets.specs.Octets.{Octets, octets, if◌then◌else◌, same, all, between}
+use Rattle.std.specs.Prelude.{if◌then◌else◌}
+use Rattle.octets.specs.Octets.{Octets, octets, same, all, between}
 use Rattle.octets.proofs.TextLaws.{same_true, same_uneven}
 use Rattle.octets.specs.Decimal.{decimal}
 use Rattle.report.specs.Xml.{after_mark, parted}

@@ -7,7 +7,8 @@ use native.Mathlib.Omega.{arith}
 use lib.Dec.{leb}
 use lib.ListN.{length, take, length-append}
 use borrow.Author.Tests.{leb-true, leb-false}
-use Rattle.octets.specs.Octets.{Octets, octets, if◌then◌else◌, is_empty, all}
+use Rattle.std.specs.Prelude.{if◌then◌else◌}
+use Rattle.octets.specs.Octets.{Octets, octets, is_empty, all}
 use Rattle.report.specs.Report.{Line, record_element}
 use Rattle.parsing.specs.Reads.{Reads, give, ◌>>=◌, run, feed}
 use Rattle.parsing.proofs.SilentLaws.{Silent, silent_both, silent_bind, row_later, row_now, whole_quiet}

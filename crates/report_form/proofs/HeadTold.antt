@@ -6,7 +6,8 @@ use mathlib.Core.Option.{Option, none as nothing, some as just}
 use Prim.Native.Nat.{ℕ, zero, suc, ◌≤◌, ◌<◌}
 use native.Mathlib.Omega.{arith}
 use lib.ListN.{length}
-use Rattle.octets.specs.Octets.{Octets, octets, if◌then◌else◌, is_empty, all, between}
+use Rattle.std.specs.Prelude.{if◌then◌else◌}
+use Rattle.octets.specs.Octets.{Octets, octets, is_empty, all, between}
 use Rattle.policy.specs.declared.Policy.{Policy}
 use Rattle.report.specs.Xml.{element, with_entities}
 use Rattle.parsing.specs.Reads.{Reads, done, ◌>>=◌, ◌>>◌}

@@ -9,7 +9,8 @@ use native.Mathlib.Omega.{arith}
 use lib.Dec.{eqb, leb, ltb}
 use lib.ListN.{length, get_or}
 use borrow.Author.Tests.{eqb-true, eqb-false, ne_eqb, eq-eqb, leb-true, le-leb}
-use Rattle.octets.specs.Octets.{Octets, octets, if◌then◌else◌, is_nothing, all, same, between, lower, is_set, flag}
+use Rattle.std.specs.Prelude.{if◌then◌else◌}
+use Rattle.octets.specs.Octets.{Octets, octets, is_nothing, all, same, between, lower, is_set, flag}
 use Rattle.octets.specs.Decimal.{decimal}
 use Rattle.domain.specs.Domain.{Domain, is_domain}
 use Rattle.policy.specs.declared.Policy.{Policy}

@@ -10,7 +10,8 @@ use native.Mathlib.Omega.{arith}
 use lib.Dec.{eqb, leb, ltb}
 use lib.ListN.{length, length-append}
 use borrow.Author.Tests.{le-leb, eq-eqb, eqb-true, ltb-true, ltb-false, lt-ltb}
-use Rattle.octets.specs.Octets.{Octets, octets, between, is_letter, is_digit, one_of, any, if◌then◌else◌}
+use Rattle.std.specs.Prelude.{if◌then◌else◌}
+use Rattle.octets.specs.Octets.{Octets, octets, between, is_letter, is_digit, one_of, any}
 use Rattle.domain.specs.Domain.{domain_octet}
 use Rattle.reporting.specs.FileName.{alphanumeric}
 use Rattle.policy.specs.declared.Policy.{Policy}

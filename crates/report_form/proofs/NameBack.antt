@@ -8,7 +8,8 @@ use native.Mathlib.Omega.{arith}
 use lib.Dec.{eqb, leb, ltb}
 use lib.ListN.{length}
 use borrow.Author.Tests.{eq-eqb, eqb-true, ltb-true, leb-true, le-leb, ne_eqb}
-use Rattle.octets.specs.Octets.{Octets, octets, if◌then◌else◌, is_empty, all, any, between, is_letter, is_digit, one_of, made_of, lower, lower_octet, split, onto_first}
+use Rattle.std.specs.Prelude.{if◌then◌else◌}
+use Rattle.octets.specs.Octets.{Octets, octets, is_empty, all, any, between, is_letter, is_digit, one_of, made_of, lower, lower_octet, split, onto_first}
 use Rattle.octets.proofs.TextLaws.{lower_length, lower_lower}
 use Rattle.domain.specs.Domain.{Domain, domain_octet, labels, good_label, first_bad, domain_fault, is_domain}
 use Rattle.parsing.specs.Reads.{Reads, done}

@@ -9,7 +9,8 @@ use native.Mathlib.Nat.{not-suc-le-zero, le_of_suc-le-suc}
 use lib.Dec.{eqb, leb, ltb}
 use lib.ListN.{length}
 use borrow.Author.Tests.{lt-ltb, leb-true, eqb-true}
-use Rattle.octets.specs.Octets.{Octets, octets, if◌then◌else◌, is_empty, all, any, same, between, is_letter, is_digit, one_of, made_of, lower, lower_octet, split, onto_first}
+use Rattle.std.specs.Prelude.{if◌then◌else◌}
+use Rattle.octets.specs.Octets.{Octets, octets, is_empty, all, any, same, between, is_letter, is_digit, one_of, made_of, lower, lower_octet, split, onto_first}
 use Rattle.octets.proofs.TextLaws.{same_true}
 use Rattle.domain.specs.Domain.{domain_octet, labels, good_label, first_bad, domain_fault, is_domain}
 use Rattle.parsing.specs.Reads.{Reads, done}

@@ -8,7 +8,8 @@ use native.Mathlib.Omega.{arith}
 use lib.Dec.{eqb, leb, ltb}
 use lib.ListN.{length, length-append}
 use borrow.Author.Tests.{le-leb, lt-leb, ne_eqb, ltb-true, ltb-false}
-use Rattle.octets.specs.Octets.{Octets, is_digit, between, if◌then◌else◌}
+use Rattle.std.specs.Prelude.{if◌then◌else◌}
+use Rattle.octets.specs.Octets.{Octets, is_digit, between}
 use Rattle.octets.specs.Decimal.{digits, decimal}
 use Rattle.octets.proofs.DecimalLaws.{decimal_one, decimal_more}
 use Rattle.octets.specs.Refusing.{refusal}

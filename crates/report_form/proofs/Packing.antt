@@ -8,7 +8,8 @@ use native.Mathlib.Omega.{arith}
 use lib.Dec.{eqb, leb}
 use lib.ListN.{length, take, drop, get_or, length-append}
 use borrow.Author.Tests.{le-leb, leb-true, ne_eqb}
-use Rattle.octets.specs.Octets.{Octets, octets, if◌then◌else◌, is_empty, is_nothing, all, same, between, lower}
+use Rattle.std.specs.Prelude.{if◌then◌else◌}
+use Rattle.octets.specs.Octets.{Octets, octets, is_empty, is_nothing, all, same, between, lower}
 use Rattle.octets.specs.Refusing.{◌>>=◌, OrRefused, ok, not_ok, refusal, refuse_if, or_refuse}
 use Rattle.octets.specs.Framing.{size_of, body_of, after_record, is_whole}
 use Rattle.octets.proofs.FramingLaws.{whole}

@@ -9,7 +9,8 @@ use native.Mathlib.Nat.{le_of_suc-le-suc, not-suc-le-zero}
 use lib.Dec.{eqb, leb}
 use lib.ListN.{length}
 use borrow.Author.Tests.{eq-eqb, eqb-true, leb-true, le-leb}
-use Rattle.octets.specs.Octets.{Octets, octets, if◌then◌else◌, is_empty, all, any, between, one_of, made_of, is_letter, is_digit}
+use Rattle.std.specs.Prelude.{if◌then◌else◌}
+use Rattle.octets.specs.Octets.{Octets, octets, is_empty, all, any, between, one_of, made_of, is_letter, is_digit}
 use Rattle.reporting.specs.FileName.{alphanumeric, good_id}
 use Rattle.report.specs.Xml
 use Rattle.report.specs.Xml.{with_entities}

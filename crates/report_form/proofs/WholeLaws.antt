@@ -10,7 +10,8 @@ use native.Mathlib.Nat.{not-suc-le-zero, le_of_suc-le-suc}
 use lib.Dec.{eqb}
 use lib.ListN.{length}
 use borrow.Author.Tests.{eq-eqb, eqb-true}
-use Rattle.octets.specs.Octets.{Octets, octets, if◌then◌else◌, all, any, between, one_of}
+use Rattle.std.specs.Prelude.{if◌then◌else◌}
+use Rattle.octets.specs.Octets.{Octets, octets, all, any, between, one_of}
 use Rattle.report.specs.Xml
 use Rattle.report.specs.Xml.{with_entities}
 use Rattle.parsing.specs.Reads.{Reads, done, give, next, ◌>>=◌, ◌>>◌, octet_where, exactly, run, handing}

@@ -8,7 +8,8 @@ use native.Mathlib.Omega.{arith}
 use lib.Dec.{eqb, leb}
 use lib.ListN.{length, take}
 use borrow.Author.Tests.{eqb-false, leb-true, le-leb}
-use Rattle.octets.specs.Octets.{Octets, if◌then◌else◌, is_empty, is_nothing, all, same, between, lower}
+use Rattle.std.specs.Prelude.{if◌then◌else◌}
+use Rattle.octets.specs.Octets.{Octets, is_empty, is_nothing, all, same, between, lower}
 use Rattle.octets.specs.Refusing.{◌>>=◌, OrRefused, ok, not_ok, refusal, refuse_if, or_refuse}
 use Rattle.octets.specs.declared.Refusal.{Refusal}
 use Rattle.domain.specs.Domain.{Domain, without_dot, is_domain}

@@ -9,7 +9,8 @@ use native.Mathlib.Omega.{arith}
 use lib.Dec.{eqb, leb, ltb}
 use lib.ListN.{length}
 use borrow.Author.Tests.{eqb-true, leb-true, le-leb}
-use Rattle.octets.specs.Octets.{Octets, octets, if◌then◌else◌, is_empty, all, same, between, lower}
+use Rattle.std.specs.Prelude.{if◌then◌else◌}
+use Rattle.octets.specs.Octets.{Octets, octets, is_empty, all, same, between, lower}
 use Rattle.octets.proofs.TextLaws.{same_true, same_self}
 use Rattle.octets.specs.Decimal.{decimal}
 use Rattle.domain.specs.Domain.{Domain, is_domain}

@@ -1,7 +1,7 @@
 -- What is claimed of reading an aggregate report (document 02, Ask 10), by Ask 9's text alone.
-use Rattle.std.specs.Prelude.{◌≡◌, List, [], ◌∷◌, ◌++◌, map, ◌⊎◌, true, false, ℕ, suc, ◌+◌, ◌-◌, ◌≤◌, ◌<◌, leb, length, take, get_or}
+use Rattle.std.specs.Prelude.{◌≡◌, List, [], ◌∷◌, ◌++◌, map, ◌⊎◌, true, false, ℕ, suc, ◌+◌, ◌-◌, ◌≤◌, ◌<◌, leb, length, take, get_or, if◌then◌else◌}
 use Rattle.std.proofs.Math.Option.{some as just}
-use Rattle.octets.specs.Octets.{Octets, octets, if◌then◌else◌, all}
+use Rattle.octets.specs.Octets.{Octets, octets, all}
 use Rattle.octets.specs.Decimal.{decimal}
 use Rattle.octets.specs.Refusing.{ok, not_ok, refusal}
 use Rattle.octets.specs.declared.Refusal.{Refusal}

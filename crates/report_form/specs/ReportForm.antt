@@ -1,7 +1,7 @@
 -- The form of an aggregate report: the texts that Ask 9 writes, "begin and end judged apart", and what their rows say.
-use Rattle.std.specs.Prelude.{◌≡◌, Bool, true, ◌&&◌, not, ℕ, ◌-◌, ◌/◌, ◌%◌, ◌^◌, eqb, leb, length}
+use Rattle.std.specs.Prelude.{◌≡◌, Bool, true, ◌&&◌, not, ℕ, ◌-◌, ◌/◌, ◌%◌, ◌^◌, eqb, leb, length, if◌then◌else◌}
 use mathlib.Core.List.{List, ◌∷◌, [], ◌++◌, map, flatten}
-use Rattle.octets.specs.Octets.{Octets, if◌then◌else◌, is_empty, is_nothing, is_set, all, same, between, lower}
+use Rattle.octets.specs.Octets.{Octets, is_empty, is_nothing, is_set, all, same, between, lower}
 use Rattle.domain.specs.Domain.{Domain, is_domain}
 use Rattle.policy.specs.declared.Policy.{Policy}
 use Rattle.policy.specs.declared.Settings.{Settings}

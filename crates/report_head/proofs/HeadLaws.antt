@@ -7,7 +7,8 @@ use native.Mathlib.Omega.{arith}
 use lib.Dec.{eqb}
 use lib.ListN.{length, get_or}
 use borrow.Author.Tests.{le-leb, lt-leb}
-use Rattle.octets.specs.Octets.{Octets, octets, if◌then◌else◌, is_empty}
+use Rattle.std.specs.Prelude.{if◌then◌else◌}
+use Rattle.octets.specs.Octets.{Octets, octets, is_empty}
 use Rattle.octets.specs.Decimal.{decimal}
 use Rattle.octets_pieces.specs.code.Pieces.{pieces, starts}
 use Rattle.octets_pieces.specs.code.Putting.{Puts}

@@ -8,7 +8,8 @@ use native.Mathlib.Omega.{arith}
 use lib.Dec.{eqb, leb, ltb}
 use lib.ListN.{length, length-append, take, get_or}
 use borrow.Author.Tests.{eq-eqb, ne_eqb}
-use Rattle.octets.specs.Octets.{Octets, if◌then◌else◌, is_set, between}
+use Rattle.std.specs.Prelude.{if◌then◌else◌}
+use Rattle.octets.specs.Octets.{Octets, is_set, between}
 use Rattle.parsing.specs.Reads.{Reads, give, ◌>>=◌}
 use Rattle.parsing_steps.specs.Stepping.{Step, on, refused, step_of, shut}
 use Rattle.report_form.specs.ReportForm.{Said}

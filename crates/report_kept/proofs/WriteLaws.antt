@@ -5,7 +5,8 @@ use Prim.Native.Nat.{ℕ, zero, suc, ◌+◌, ◌*◌, ◌≤◌, ◌<◌}
 use native.Mathlib.Omega.{arith}
 use lib.Dec.{eqb}
 use lib.ListN.{length, take, drop, get_or}
-use Rattle.octets.specs.Octets.{Octets, if◌then◌else◌}
+use Rattle.std.specs.Prelude.{if◌then◌else◌}
+use Rattle.octets.specs.Octets.{Octets}
 use Rattle.report_kept.specs.Layout.{name_in, base, identifier_at, listed, singles, pairs, source_in}
 use Rattle.report_kept.specs.code.View.{laid, laid_at}
 use Rattle.report_form.specs.ReportForm.{mapped, group_octets}

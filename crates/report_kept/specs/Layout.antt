@@ -1,7 +1,7 @@
 -- The octets of the row that is read: its source address in 16, its author domain in 253, and from 272 on 510 for each of 16 identifiers: its domain in
 -- 253, its selector in 253, how long each is, its outcome and its kind.
-use Rattle.std.specs.Prelude.{List, [], ◌∷◌, ◌++◌, ℕ, zero, suc, ◌+◌, ◌*◌, eqb, take, drop, get_or}
-use Rattle.octets.specs.Octets.{Octets, if◌then◌else◌}
+use Rattle.std.specs.Prelude.{List, [], ◌∷◌, ◌++◌, ℕ, zero, suc, ◌+◌, ◌*◌, eqb, take, drop, get_or, if◌then◌else◌}
+use Rattle.octets.specs.Octets.{Octets}
 use Rattle.domain.specs.Domain.{Domain}
 use Rattle.rows.specs.Lists.{Reported}
 use Rattle.report_form.specs.ReportForm.{mapped, group_octets}

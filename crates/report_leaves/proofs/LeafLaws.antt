@@ -7,7 +7,8 @@ use native.Mathlib.Omega.{arith}
 use lib.Dec.{eqb, leb, ltb}
 use lib.ListN.{length, drop, get_or}
 use borrow.Author.Tests.{lt-ltb, le-ltb, le-leb, lt-leb, eq-eqb, ne_eqb, leb-true, eqb-true}
-use Rattle.octets.specs.Octets.{Octets, octets, if◌then◌else◌, between, is_letter, is_digit, one_of, any}
+use Rattle.std.specs.Prelude.{if◌then◌else◌}
+use Rattle.octets.specs.Octets.{Octets, octets, between, is_letter, is_digit, one_of, any}
 use Rattle.domain.specs.Domain.{domain_octet}
 use Rattle.reporting.specs.FileName.{alphanumeric}
 use Rattle.parsing.specs.Reads.{Reads, done, next, ◌>>=◌, ◌>>◌, octet_where, exactly}

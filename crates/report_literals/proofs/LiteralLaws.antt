@@ -9,7 +9,8 @@ use native.Mathlib.Omega.{arith}
 use lib.Dec.{eqb, leb, ltb}
 use lib.ListN.{length, length-append, take, get_or}
 use borrow.Author.Tests.{eq-eqb, ne_eqb, lt-ltb, le-ltb, lt-leb, le-leb, ltb-true, eqb-true, eqb-false, leb-false}
-use Rattle.octets.specs.Octets.{Octets, octets, if◌then◌else◌, is_set, between}
+use Rattle.std.specs.Prelude.{if◌then◌else◌}
+use Rattle.octets.specs.Octets.{Octets, octets, is_set, between}
 use Rattle.policy.specs.declared.Policy.{Policy}
 use Rattle.parsing.specs.Reads.{Reads}
 use Rattle.parsing_steps.specs.Stepping.{Step, on, refused, step_of, behind}

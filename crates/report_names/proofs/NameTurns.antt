@@ -8,7 +8,8 @@ use native.Mathlib.Omega.{arith}
 use lib.Dec.{eqb, leb}
 use lib.ListN.{length, take, drop}
 use borrow.Author.Tests.{eq-eqb, ne_eqb, lt-leb, le-leb, leb-true, leb-false}
-use Rattle.octets.specs.Octets.{Octets, if◌then◌else◌, is_set, between}
+use Rattle.std.specs.Prelude.{if◌then◌else◌}
+use Rattle.octets.specs.Octets.{Octets, is_set, between}
 use Rattle.parsing.specs.Reads.{Reads, ◌>>=◌}
 use Rattle.parsing_steps.specs.Stepping.{Step, on, refused, step_of}
 use Rattle.report_form.specs.ReportForm.{Said}

@@ -8,7 +8,8 @@ use native.Mathlib.Omega.{arith}
 use lib.Dec.{eqb, ltb}
 use lib.ListN.{length, length-append, get_or}
 use borrow.Author.Tests.{eq-eqb, ne_eqb, eqb-true, eqb-false, le-leb, lt-leb}
-use Rattle.octets.specs.Octets.{Octets, if◌then◌else◌, is_set, between}
+use Rattle.std.specs.Prelude.{if◌then◌else◌}
+use Rattle.octets.specs.Octets.{Octets, is_set, between}
 use Rattle.parsing.specs.Reads.{Reads, done, next, ◌>>=◌, octet_where}
 use Rattle.parsing_steps.specs.Stepping.{Step, on, refused, step_of, takes, then_on}
 use Rattle.parsing_steps.proofs.StepLaws.{step_bind, done_on}

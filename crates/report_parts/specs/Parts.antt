@@ -1,6 +1,6 @@
 -- A reader of aggregate reports in the caller's memory, and what each call on it promises (document 02, Ask 10).
-use Rattle.std.specs.Prelude.{◌≡◌, List, [], ◌∷◌, Bool, true, false, ℕ, ◌≤◌, eqb, length, take, get_or}
-use Rattle.octets.specs.Octets.{Octets, if◌then◌else◌, is_set}
+use Rattle.std.specs.Prelude.{◌≡◌, List, [], ◌∷◌, Bool, true, false, ℕ, ◌≤◌, eqb, length, take, get_or, if◌then◌else◌}
+use Rattle.octets.specs.Octets.{Octets, is_set}
 use Rattle.octets.specs.Refusing.{OrRefused, ok, not_ok}
 use Rattle.octets.specs.declared.Refusal.{Refusal}
 use Rattle.policy.specs.declared.Policy.{Policy}

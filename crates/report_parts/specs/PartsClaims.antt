@@ -1,7 +1,7 @@
 -- What is claimed of every list of calls on a reader of aggregate reports (document 02, Ask 10).
-use Rattle.std.specs.Prelude.{◌≡◌, ◌⊎◌, Bool, true, false, ℕ, eqb, take, drop}
+use Rattle.std.specs.Prelude.{◌≡◌, ◌⊎◌, Bool, true, false, ℕ, eqb, take, drop, if◌then◌else◌}
 use mathlib.Core.List.{List, [], ◌∷◌, ◌++◌, flatten}
-use Rattle.octets.specs.Octets.{Octets, if◌then◌else◌}
+use Rattle.octets.specs.Octets.{Octets}
 use Rattle.octets.specs.Refusing.{ok, not_ok}
 use Rattle.octets.specs.declared.Refusal.{Refusal}
 use Rattle.parsing.specs.Reads.{stuck, feed, ended}

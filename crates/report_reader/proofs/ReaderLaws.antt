@@ -7,7 +7,8 @@ use native.Mathlib.Omega.{arith}
 use lib.Dec.{eqb}
 use lib.ListN.{length, take, drop, get_or, length-drop}
 use borrow.Author.Tests.{eq-eqb, ne_eqb}
-use Rattle.octets.specs.Octets.{Octets, if◌then◌else◌, between}
+use Rattle.std.specs.Prelude.{if◌then◌else◌}
+use Rattle.octets.specs.Octets.{Octets, between}
 use Rattle.octets.specs.Refusing.{ok, not_ok, refusal}
 use Rattle.parsing.specs.Reads.{Reads, done, give, next, open_at, stuck, Reader, Fed, feed, ended, closed}
 use Rattle.parsing_steps.specs.Stepping.{takes}

@@ -5,7 +5,8 @@ use mathlib.Core.Bool.{Bool, true, false, ◌||◌}
 use Prim.Native.Nat.{ℕ, zero, suc}
 use native.Mathlib.Omega.{arith}
 use lib.ListN.{get_or}
-use Rattle.octets.specs.Octets.{Octets, octets, if◌then◌else◌, is_set, lower}
+use Rattle.std.specs.Prelude.{if◌then◌else◌}
+use Rattle.octets.specs.Octets.{Octets, octets, is_set, lower}
 use Rattle.octets_pieces.specs.code.Pieces.{pieces, starts}
 use Rattle.octets_pieces.specs.code.Putting.{Puts}
 use Rattle.octets_pieces.proofs.PieceLaws.{word_pieces}

@@ -6,7 +6,8 @@ use Prim.Native.Nat.{ℕ, ◌+◌, ◌-◌, ◌≤◌, ◌<◌}
 use native.Mathlib.Omega.{arith}
 use lib.ListN.{length, drop, get_or}
 use borrow.Author.Tests.{eq-eqb, ne_eqb}
-use Rattle.octets.specs.Octets.{Octets, octets, if◌then◌else◌, part_of}
+use Rattle.std.specs.Prelude.{if◌then◌else◌}
+use Rattle.octets.specs.Octets.{Octets, octets, part_of}
 use Rattle.octets.specs.Framing.{after_record}
 use Rattle.octets_pieces.specs.code.Putting.{Puts}
 use Rattle.octets_pieces.proofs.PuttingLaws.{puts_both, puts_nothing}

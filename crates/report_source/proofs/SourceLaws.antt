@@ -8,7 +8,8 @@ use native.Mathlib.Omega.{arith}
 use lib.Dec.{eqb, leb, ltb}
 use lib.ListN.{length, length-append, get_or}
 use borrow.Author.Tests.{lt-ltb, le-ltb, le-leb, lt-leb, eq-eqb, ne_eqb, leb-true, ltb-true, eqb-true, eqb-false}
-use Rattle.octets.specs.Octets.{Octets, if◌then◌else◌, is_digit, between}
+use Rattle.std.specs.Prelude.{if◌then◌else◌}
+use Rattle.octets.specs.Octets.{Octets, is_digit, between}
 use Rattle.parsing.specs.Reads.{Reads, done}
 use Rattle.parsing_steps.specs.Stepping.{Step, on, refused, step_of}
 use Rattle.parsing_steps.proofs.StepLaws.{where_no}

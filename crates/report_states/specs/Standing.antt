@@ -1,8 +1,8 @@
 -- Where the form is read: a node for each literal, word and value, where each leads, and the program that is left at every place.
-use Rattle.std.specs.Prelude.{List, [], ◌∷◌, ◌++◌, map, Bool, true, false, ℕ, zero, suc, ◌-◌, eqb, leb, ltb, length, drop, get_or}
+use Rattle.std.specs.Prelude.{List, [], ◌∷◌, ◌++◌, map, Bool, true, false, ℕ, zero, suc, ◌-◌, eqb, leb, ltb, length, drop, get_or, if◌then◌else◌}
 use Rattle.std.proofs.Math.Option.{Option, none as nothing, some as just}
 use Prim.Native.String.{String}
-use Rattle.octets.specs.Octets.{Octets, octets, if◌then◌else◌}
+use Rattle.octets.specs.Octets.{Octets, octets}
 use Rattle.octets.specs.Decimal.{decimal}
 use Rattle.domain.specs.Domain.{Domain}
 use Rattle.policy.specs.declared.Policy.{Policy}

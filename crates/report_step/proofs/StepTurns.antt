@@ -7,7 +7,8 @@ use native.Mathlib.Omega.{arith}
 use lib.Dec.{leb}
 use lib.ListN.{length, get_or}
 use borrow.Author.Tests.{lt-leb, le-leb, leb-true, leb-false}
-use Rattle.octets.specs.Octets.{Octets, if◌then◌else◌, between}
+use Rattle.std.specs.Prelude.{if◌then◌else◌}
+use Rattle.octets.specs.Octets.{Octets, between}
 use Rattle.parsing.specs.Reads.{done}
 use Rattle.parsing_steps.specs.Stepping.{Step, on, refused, step_of, shut}
 use Rattle.parsing_steps.proofs.StepLaws.{where_no}

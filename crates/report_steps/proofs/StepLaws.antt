@@ -7,7 +7,8 @@ use Prim.Native.Nat.{ℕ, zero, suc, ◌+◌, ◌-◌, ◌*◌, ◌/◌, ◌≤�
 use native.Mathlib.Omega.{arith}
 use lib.Dec.{eqb, leb}
 use borrow.Author.Tests.{le-leb, lt-leb, leb-true, leb-false, eq-eqb, ne_eqb}
-use Rattle.octets.specs.Octets.{Octets, if◌then◌else◌, is_digit, between}
+use Rattle.std.specs.Prelude.{if◌then◌else◌}
+use Rattle.octets.specs.Octets.{Octets, is_digit, between}
 use Rattle.octets.specs.Refusing.{refusal}
 use Rattle.parsing.specs.Reads.{Reads, done, next, ◌>>=◌, stuck, stands, run}
 use Rattle.report_form.specs.code.ReportReading.{digit_refused, number_refused, digits_more as number_from}

@@ -7,7 +7,8 @@ use native.Mathlib.Omega.{arith}
 use lib.Dec.{eqb}
 use lib.ListN.{length, take, set, get_or}
 use borrow.Author.Tests.{eq-eqb, ne_eqb, eqb-true, eqb-false}
-use Rattle.octets.specs.Octets.{Octets, if◌then◌else◌, same}
+use Rattle.std.specs.Prelude.{if◌then◌else◌}
+use Rattle.octets.specs.Octets.{Octets, same}
 use Rattle.report_source.specs.code.Sources.{five_zeros}
 use Rattle.report_kept.specs.declared.Written.{Written}
 use Rattle.report_kept.specs.Layout.{singles, pairs}

@@ -7,7 +7,8 @@ use native.Mathlib.Omega.{arith}
 use lib.Dec.{eqb, leb, ltb}
 use lib.ListN.{length, take, get_or}
 use borrow.Author.Tests.{lt-leb, leb-true, leb-false}
-use Rattle.octets.specs.Octets.{Octets, octets, if◌then◌else◌, all, between}
+use Rattle.std.specs.Prelude.{if◌then◌else◌}
+use Rattle.octets.specs.Octets.{Octets, octets, all, between}
 use Rattle.parsing.specs.Reads.{Reads, done, give, next, ◌>>=◌, ◌>>◌, octet_where}
 use Rattle.parsing_steps.specs.Stepping.{takes, behind, shut}
 use Rattle.parsing_steps.proofs.StepLaws.{takes_behind}

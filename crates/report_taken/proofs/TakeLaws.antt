@@ -7,7 +7,8 @@ use native.Mathlib.Omega.{arith}
 use lib.Dec.{eqb}
 use lib.ListN.{length}
 use borrow.Author.Tests.{eq-eqb, ne_eqb, eqb-true, eqb-false}
-use Rattle.octets.specs.Octets.{Octets, if◌then◌else◌}
+use Rattle.std.specs.Prelude.{if◌then◌else◌}
+use Rattle.octets.specs.Octets.{Octets}
 use Rattle.octets.specs.Refusing.{refusal}
 use Rattle.parsing.specs.Reads.{Reads, give, Left, open_at, stuck, Reader, Fed, handing, stands, run, feed}
 use Rattle.parsing_steps.specs.Stepping.{Step, on, refused, step_of, run_after}

@@ -7,7 +7,8 @@ use native.Mathlib.Omega.{arith}
 use lib.Dec.{eqb, leb}
 use lib.ListN.{length}
 use borrow.Author.Tests.{leb-true, eqb-true, eqb-false}
-use Rattle.octets.specs.Octets.{if◌then◌else◌, is_digit, between}
+use Rattle.std.specs.Prelude.{if◌then◌else◌}
+use Rattle.octets.specs.Octets.{is_digit, between}
 use Rattle.octets.specs.Decimal.{decimal}
 use Rattle.octets.proofs.DecimalLaws.{length_one, length_more}
 use Rattle.parsing.specs.Reads.{Reads, done, next}

@@ -3,7 +3,8 @@ use Rattle.std.proofs.Common.{◌≡◌, ℕ, zero, suc, ◌+◌, ◌-◌, ◌%�
 use mathlib.Core.List.{flatten}
 use Prim.Native.String.{String}
 use mathlib.Core.Option.{none as nothing, some as just}
-use Rattle.octets.specs.Octets.{Octets, octets, if◌then◌else◌}
+use Rattle.std.specs.Prelude.{if◌then◌else◌}
+use Rattle.octets.specs.Octets.{Octets, octets}
 use Rattle.parsing.specs.Reads.{Reads, done}
 use Rattle.parsing_steps.specs.Stepping.{Step, on, refused, step_of, behind}
 use Rattle.parsing_steps.proofs.StepLaws.{behind_other, behind_past, behind_next, behind_last}

@@ -10,7 +10,8 @@ use native.Mathlib.Nat.{zero-add}
 use borrow.Author.Tests.{not-true, not-false}
 use lib.Dec.{leb}
 use lib.ListN.{length, length-append}
-use Rattle.octets.specs.Octets.{Octets, octets, if◌then◌else◌, lower}
+use Rattle.std.specs.Prelude.{if◌then◌else◌}
+use Rattle.octets.specs.Octets.{Octets, octets, lower}
 use Rattle.octets.specs.Decimal.{decimal}
 use Rattle.octets.specs.Lent.{Writes, WritesIf, written_if, left_if}
 use Rattle.octets.specs.Refusing.{refusal}

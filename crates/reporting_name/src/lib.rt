@@ -1,8 +1,7 @@
 // The report file name.
 #![tactic(auto)]
 
-ghost use Rattle.std.specs.Prelude.{◌≡◌, []};
-ghost use Rattle.octets.specs.Octets.{if◌then◌else◌};
+ghost use Rattle.std.specs.Prelude.{◌≡◌, [], if◌then◌else◌};
 ghost use Rattle.octets.specs.Lent.{WritesIf};
 ghost use Rattle.octets_pieces.specs.code.Putting.{Puts};
 ghost use Rattle.reporting.specs.FileName.{given_id, good_id_if_any, good_report, file_name_text, file_name};

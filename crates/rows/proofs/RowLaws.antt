@@ -7,7 +7,8 @@ use Prim.Native.Nat.{ℕ, zero, suc, ◌+◌}
 use native.Mathlib.Omega.{arith}
 use lib.Dec.{T, eqb, eqb→eq, eqb_refl}
 use lib.ListN.{length, take, drop}
-use Rattle.octets.specs.Octets.{Octets, if◌then◌else◌, is_set, flag, all, any, same}
+use Rattle.std.specs.Prelude.{if◌then◌else◌}
+use Rattle.octets.specs.Octets.{Octets, is_set, flag, all, any, same}
 use Rattle.octets.proofs.TextLaws.{and_left, and_right, both, flag_said, true→T, same→eq}
 use Rattle.rows.specs.declared.Seen.{Seen}
 use Rattle.rows.specs.declared.Row.{Row}

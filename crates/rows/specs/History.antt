@@ -1,6 +1,6 @@
 -- What is claimed of the rows after a history of calls (document 02, Ask 1); `rows_day` claims it of every run of the two calls.
-use Rattle.std.specs.Prelude.{◌≡◌, List, [], ◌∷◌, map, Bool, true, false, ℕ, ◌+◌, eqb, length}
-use Rattle.octets.specs.Octets.{Octets, if◌then◌else◌}
+use Rattle.std.specs.Prelude.{◌≡◌, List, [], ◌∷◌, map, Bool, true, false, ℕ, ◌+◌, eqb, length, if◌then◌else◌}
+use Rattle.octets.specs.Octets.{Octets}
 use Rattle.octets.specs.Refusing.{OrRefused, ok, not_ok, refusal}
 use Rattle.octets.specs.declared.Refusal.{Refusal}
 use Rattle.rows.specs.declared.Seen.{Seen}

@@ -1,8 +1,8 @@
 -- What a row's numbers name (document 02, Ask 9): "The row gains two numbers", "Both are places in lists handed in beside the rows", of author domains and
 -- of sets of identifiers, each list in one text. Every text is read.
-use Rattle.std.specs.Prelude.{List, [], ◌∷◌, map, false, ℕ, zero, suc, ◌+◌, length, take, drop, get_or}
+use Rattle.std.specs.Prelude.{List, [], ◌∷◌, map, false, ℕ, zero, suc, ◌+◌, length, take, drop, get_or, if◌then◌else◌}
 use Rattle.std.proofs.Math.Option.{Option, none as nothing, some as just}
-use Rattle.octets.specs.Octets.{Octets, octets, if◌then◌else◌}
+use Rattle.octets.specs.Octets.{Octets, octets}
 use Rattle.octets.specs.Refusing.{ok, not_ok}
 use Rattle.octets.specs.Framing.{body_of, after_record, is_whole}
 use Rattle.domain.specs.Domain.{Domain, without_dot}

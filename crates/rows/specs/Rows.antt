@@ -1,9 +1,9 @@
 -- Daily rows of one policy domain (document 02, Ask 1; for a final dot Ask 5, for a row's two numbers Ask 9): what clearing a list and entering a
 -- verdict give. "The report room wants each day's verdicts gathered".
-use Rattle.std.specs.Prelude.{List, [], ◌∷◌, ◌++◌, map, Bool, false, ◌&&◌, not, ℕ, ◌+◌, eqb, leb, take, drop}
+use Rattle.std.specs.Prelude.{List, [], ◌∷◌, ◌++◌, map, Bool, false, ◌&&◌, not, ℕ, ◌+◌, eqb, leb, take, drop, if◌then◌else◌}
 use Rattle.std.specs.Bool.{beq}
 use Rattle.std.proofs.Math.Option.{Option, none as nothing, some as just}
-use Rattle.octets.specs.Octets.{Octets, if◌then◌else◌, is_nothing, is_set, flag, any, same, same_text, lower}
+use Rattle.octets.specs.Octets.{Octets, is_nothing, is_set, flag, any, same, same_text, lower}
 use Rattle.octets.specs.Refusing.{◌>>=◌, OrRefused, ok, not_ok, refusal, refuse_if}
 use Rattle.domain.specs.Domain.{Domain, without_dot, is_domain}
 use Rattle.policy.specs.declared.Policy.{Policy}

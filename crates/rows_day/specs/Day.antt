@@ -1,7 +1,7 @@
 -- What clearing and entering promise, and what is claimed of every run of these calls (document 02, Ask 1).
-use Rattle.std.specs.Prelude.{◌≡◌, List, [], ◌∷◌, true, false, length, take, replicate}
+use Rattle.std.specs.Prelude.{◌≡◌, List, [], ◌∷◌, true, false, length, take, replicate, if◌then◌else◌}
 use Rattle.std.proofs.Math.Option.{Option, none as nothing, some as just}
-use Rattle.octets.specs.Octets.{Octets, if◌then◌else◌, is_nothing, is_set, lower}
+use Rattle.octets.specs.Octets.{Octets, is_nothing, is_set, lower}
 use Rattle.octets.specs.Lent.{left}
 use Rattle.octets.specs.declared.Refusal.{Refusal}
 use Rattle.domain.specs.Domain.{Domain, without_dot}

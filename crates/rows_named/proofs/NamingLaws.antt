@@ -9,7 +9,8 @@ use native.Mathlib.Omega.{arith}
 use lib.Dec.{eqb, leb}
 use lib.ListN.{length, take, drop, get_or}
 use borrow.Author.Tests.{le-leb, lt-leb, leb-false, eq-eqb, ne_eqb}
-use Rattle.octets.specs.Octets.{Octets, if◌then◌else◌, is_nothing}
+use Rattle.std.specs.Prelude.{if◌then◌else◌}
+use Rattle.octets.specs.Octets.{Octets, is_nothing}
 use Rattle.octets.specs.Framing.{size_of, body_of, after_record, is_whole}
 use Rattle.octets.proofs.FramingLaws.{after_shorter}
 use Rattle.rows.specs.Lists.{Reported, reported, body_or_empty, first_body, body_at, set_most, set_in, with_good_domain, good_set, set_of, Lists, both_named, named_by}

@@ -7,7 +7,8 @@ use Prim.Native.Nat.{ℕ, zero, suc, ◌+◌, ◌-◌, ◌≤◌, ◌<◌}
 use native.Mathlib.Omega.{arith}
 use lib.Dec.{eqb}
 use lib.ListN.{length, get_or}
-use Rattle.octets.specs.Octets.{Octets, octets, same, if◌then◌else◌}
+use Rattle.std.specs.Prelude.{if◌then◌else◌}
+use Rattle.octets.specs.Octets.{Octets, octets, same}
 use Rattle.octets.specs.Framing.{mark_of, size_of, body_of, after_record, is_whole}
 use Rattle.octets.specs.Lent.{over}
 use Rattle.octets.proofs.LentLaws.{rest_of}

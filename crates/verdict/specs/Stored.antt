@@ -1,7 +1,6 @@
 -- What is stored of a message's walks (document 02, Ask 7): a number for the author's walk, then one for each identifier's, in the given order.
-use Rattle.std.specs.Prelude.{List, [], ◌∷◌, ℕ, ◌+◌}
+use Rattle.std.specs.Prelude.{List, [], ◌∷◌, ℕ, ◌+◌, if◌then◌else◌}
 use Rattle.std.proofs.Math.Option.{Option, none as nothing, some as just}
-use Rattle.octets.specs.Octets.{if◌then◌else◌}
 use Rattle.lookup.specs.Lookup.{Answers, Standing, needs, has, run_over}
 use Rattle.domain.specs.Domain.{Domain, begin_of}
 use Rattle.policy.specs.declared.Settings.{Settings}

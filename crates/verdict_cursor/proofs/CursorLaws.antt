@@ -6,7 +6,8 @@ use mathlib.Core.Option
 use mathlib.Core.Option.{Option, none as nothing, some as just}
 use Prim.Native.Nat.{ℕ, zero, suc}
 use lib.ListN.{get_or}
-use Rattle.octets.specs.Octets.{is_nothing, any, if◌then◌else◌}
+use Rattle.std.specs.Prelude.{if◌then◌else◌}
+use Rattle.octets.specs.Octets.{is_nothing, any}
 use Rattle.lookup.specs.Lookup.{Name, done, ◌>>=◌, Answers, find, Standing, needs, has, run, run_over}
 use Rattle.lookup.specs.code.Following.{Follows}
 use Rattle.lookup.proofs.RunLaws.{find_new, needs_injective, has≢needs}

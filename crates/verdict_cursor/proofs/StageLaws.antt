@@ -3,7 +3,8 @@ use mathlib.Core.Path.{◌≡◌, refl, ap, sym, ◌∙◌, fun_ext}
 use mathlib.Core.List.{List, [], ◌∷◌, ◌++◌, append_assoc, append-nil}
 use mathlib.Core.Bool.{Bool, true, false}
 use mathlib.Core.Option.{Option, none as nothing, some as just, map, map-map}
-use Rattle.octets.specs.Octets.{any, if◌then◌else◌}
+use Rattle.std.specs.Prelude.{if◌then◌else◌}
+use Rattle.octets.specs.Octets.{any}
 use Rattle.lookup.specs.Lookup.{Name, Lookups, done, ask, ◌>>=◌, Answers, find, needs, run, run_over}
 use Rattle.lookup.proofs.RunLaws.{bind_bind, onward, run_bind, run_open}
 use Rattle.lookup.specs.code.Following.{Follows}

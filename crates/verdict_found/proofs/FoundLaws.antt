@@ -5,7 +5,8 @@ use mathlib.Core.Bool.{Bool, true, false}
 use Prim.Native.Nat.{ℕ, ◌-◌}
 use denote.Enum.Declared.{tag_of}
 use types.Run.{OneOf, miss}
-use Rattle.octets.specs.Octets.{Octets, any, if◌then◌else◌}
+use Rattle.std.specs.Prelude.{if◌then◌else◌}
+use Rattle.octets.specs.Octets.{Octets, any}
 use Rattle.lookup.specs.Lookup.{Answers}
 use Rattle.domain.specs.declared.Octet.{Octet}
 use Rattle.policy.specs.declared.Settings.{Settings}

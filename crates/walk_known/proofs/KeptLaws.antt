@@ -8,7 +8,8 @@ use native.Mathlib.Numerals.{add-one, add-two, add-three}
 use native.Mathlib.Omega.{arith}
 use lib.ListN.{length, drop, get_or, length-drop}
 use lib.Seq.{drop-cons}
-use Rattle.octets.specs.Octets.{Octets, octets, same, same_text, if◌then◌else◌, part_of}
+use Rattle.std.specs.Prelude.{if◌then◌else◌}
+use Rattle.octets.specs.Octets.{Octets, octets, same, same_text, part_of}
 use Rattle.lookup.specs.Lookup.{Answers, find}
 use Rattle.domain.specs.Domain.{Domain, can_ask, asked_name}
 use Rattle.txt.specs.declared.Reply.{Reply}

@@ -9,7 +9,7 @@ use lib.Dec.{eqb, ltb}
 use lib.ListN.{length, drop}
 use lib.Seq.{drop-drop}
 use borrow.Author.Tests.{ltb-true, eqb-true, eqb-false}
-use Rattle.octets.specs.Octets.{if◌then◌else◌}
+use Rattle.std.specs.Prelude.{if◌then◌else◌}
 use Rattle.domain.specs.Domain.{Domain, label_count, last_labels, begin_of, down_from, targets}
 use Rattle.domain.proofs.DomainLaws.{label_count_positive, count_at_dot, count_at_other, last_labels_end, last_all, last_count}
 use Rattle.walk_progress.specs.code.Turns.{one_more}

@@ -7,7 +7,8 @@ use mathlib.Core.Option.{Option, none as nothing, some as just}
 use Prim.Native.Nat.{ℕ, ◌+◌, ◌-◌}
 use lib.Dec.{ltb}
 use lib.ListN.{drop}
-use Rattle.octets.specs.Octets.{same, if◌then◌else◌}
+use Rattle.std.specs.Prelude.{if◌then◌else◌}
+use Rattle.octets.specs.Octets.{same}
 use Rattle.lookup.specs.Lookup.{ask, ◌>>=◌, Answers, find, needs, has, run, run_over}
 use Rattle.lookup.proofs.RunLaws.{onward}
 use Rattle.lookup.proofs.FollowLaws.{follows_same, follows_on, follows_known, follows_needs, follows_new}

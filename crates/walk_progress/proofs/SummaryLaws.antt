@@ -6,7 +6,8 @@ use mathlib.Core.Option.{Option, none as nothing, some as just, map, map-map}
 use Prim.Native.Nat.{ℕ, suc, ◌≤◌, ◌<◌}
 use native.Mathlib.Omega.{arith}
 use lib.ListN.{length}
-use Rattle.octets.specs.Octets.{same, if◌then◌else◌}
+use Rattle.std.specs.Prelude.{if◌then◌else◌}
+use Rattle.octets.specs.Octets.{same}
 use Rattle.octets.proofs.TextLaws.{same_self, same_uneven}
 use Rattle.lookup.specs.Lookup.{Name, Lookups, done, ◌>>=◌, has, run}
 use Rattle.lookup.proofs.RunLaws.{bind_bind, onward, onward_onward, run_bind}

@@ -8,7 +8,8 @@ use native.Mathlib.Omega.{arith}
 use lib.Dec.{eqb, leb}
 use lib.ListN.{length, take, drop, replicate}
 use borrow.Author.Tests.{le-leb}
-use Rattle.octets.specs.Octets.{Octets, if◌then◌else◌, is_nothing, is_set, any, lower}
+use Rattle.std.specs.Prelude.{if◌then◌else◌}
+use Rattle.octets.specs.Octets.{Octets, is_nothing, is_set, any, lower}
 use Rattle.octets.specs.Refusing.{◌>>=◌, OrRefused, ok, not_ok, refusal, refuse_if}
 use Rattle.octets.specs.Lent.{left, over, fits}
 use Rattle.octets.proofs.TextLaws.{true→T, lower_length}

@@ -1,7 +1,7 @@
 -- What a check keeps between calls, and what each call makes of it: the definitions that the calls' contracts cite.
-use Rattle.std.specs.Prelude.{[], ◌∷◌, ◌++◌, Bool, true, false, ◌&&◌, ◌||◌, not, ℕ, ◌+◌, ltb, length}
+use Rattle.std.specs.Prelude.{[], ◌∷◌, ◌++◌, Bool, true, false, ◌&&◌, ◌||◌, not, ℕ, ◌+◌, ltb, length, if◌then◌else◌}
 use Rattle.std.proofs.Math.Option.{Option, none as nothing, some as just}
-use Rattle.octets.specs.Octets.{Octets, if◌then◌else◌, lower, same_text}
+use Rattle.octets.specs.Octets.{Octets, lower, same_text}
 use Rattle.octets.specs.Refusing.{OrRefused, ok, not_ok, refusal}
 use Rattle.lookup.specs.Lookup.{Name, Answers, Standing, needs, has}
 use Rattle.domain.specs.Domain.{without_dot}

@@ -1,6 +1,6 @@
 -- How a message is stored: the domains of its walks in slots of 253 octets, the author's first, and three numbers for each walk.
-use Rattle.std.specs.Prelude.{List, [], ◌∷◌, ℕ, zero, suc, ◌+◌, ◌*◌, min, leb, take, drop, get_or}
-use Rattle.octets.specs.Octets.{Octets, if◌then◌else◌}
+use Rattle.std.specs.Prelude.{List, [], ◌∷◌, ℕ, zero, suc, ◌+◌, ◌*◌, min, leb, take, drop, get_or, if◌then◌else◌}
+use Rattle.octets.specs.Octets.{Octets}
 use Rattle.domain.specs.Domain.{Domain}
 use Rattle.alignment.specs.declared.Kind.{Kind}
 use Rattle.alignment.specs.declared.Outcome.{Outcome}

@@ -1,6 +1,6 @@
 -- The domain rule as one pass over a text sees it.
-use Rattle.std.specs.Prelude.{◌≡◌, List, Bool, ◌&&◌, not, ℕ, ◌<◌, eqb, leb, length, get_or}
-use Rattle.octets.specs.Octets.{Octets, if◌then◌else◌, is_empty, all}
+use Rattle.std.specs.Prelude.{◌≡◌, List, Bool, ◌&&◌, not, ℕ, ◌<◌, eqb, leb, length, get_or, if◌then◌else◌}
+use Rattle.octets.specs.Octets.{Octets, is_empty, all}
 use Rattle.domain.specs.Domain.{domain_octet}
 
 -- an octet's class: 0 in a label, 1 a dot, 2 another

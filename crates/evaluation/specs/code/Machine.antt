@@ -1,8 +1,8 @@
 -- What an evaluation keeps between calls, and what each call makes of it: the definitions that the calls' contracts cite. A call moves on from where
 -- the last one left off, and nothing is replayed.
-use Rattle.std.specs.Prelude.{[], ◌∷◌, ◌++◌, Bool, ◌&&◌, ℕ, ltb, length}
+use Rattle.std.specs.Prelude.{[], ◌∷◌, ◌++◌, Bool, ◌&&◌, ℕ, ltb, length, if◌then◌else◌}
 use Rattle.std.proofs.Math.Option.{Option, none as nothing, some as just}
-use Rattle.octets.specs.Octets.{Octets, if◌then◌else◌, same_text}
+use Rattle.octets.specs.Octets.{Octets, same_text}
 use Rattle.octets.specs.Refusing.{◌>>=◌, OrRefused, ok, not_ok, refusal}
 use Rattle.octets.specs.Lent.{written_if, left_if}
 use Rattle.lookup.specs.Lookup.{Name, Answers, Standing, needs, has}

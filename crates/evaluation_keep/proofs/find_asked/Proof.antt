@@ -6,7 +6,7 @@ use mathlib.Core.Option.{none as nothing, some as just}
 use Prim.Native.Nat.{ℕ}
 use lib.ListN.{drop}
 use borrow.Author.Tests.{not-true, not-false}
-use Rattle.octets.specs.Octets.{if◌then◌else◌}
+use Rattle.std.specs.Prelude.{if◌then◌else◌}
 use Rattle.domain.specs.Domain.{asked_name}
 use Rattle.alignment_stored.specs.code.Stored.{slot}
 use Rattle.verdict_judgement.specs.code.Judging.{stored_message}

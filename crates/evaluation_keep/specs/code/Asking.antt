@@ -1,7 +1,7 @@
 -- What an answer is taken for.
-use Rattle.std.specs.Prelude.{Bool, true, false}
+use Rattle.std.specs.Prelude.{Bool, true, false, if◌then◌else◌}
 use Rattle.std.proofs.Math.Option.{Option, none as nothing, some as just}
-use Rattle.octets.specs.Octets.{Octets, if◌then◌else◌, same_text}
+use Rattle.octets.specs.Octets.{Octets, same_text}
 use Rattle.lookup.specs.Lookup.{Name}
 use Rattle.domain.specs.Domain.{without_dot}
 

@@ -1,7 +1,7 @@
 -- What is read of an Identity-Alignment field, by its grammar. What it finds is claimed of every text, so nobody has to believe this.
-use Rattle.std.specs.Prelude.{List, [], ◌∷◌, ◌++◌, ℕ, ◌-◌, ltb}
+use Rattle.std.specs.Prelude.{List, [], ◌∷◌, ◌++◌, ℕ, ◌-◌, ltb, if◌then◌else◌}
 use Rattle.std.proofs.Math.Option.{Option, none as nothing, some as just}
-use Rattle.octets.specs.Octets.{Octets, if◌then◌else◌, is_nothing}
+use Rattle.octets.specs.Octets.{Octets, is_nothing}
 use Rattle.octets.specs.Refusing.{OrRefused, ok, not_ok, refusal}
 use Rattle.octets.specs.declared.Refusal.{Refusal}
 use Rattle.grammar.specs.Grammar.{Grammar, ◌then◌, many}

@@ -1,6 +1,5 @@
 -- Blanks by their rows in the tables.
-use Rattle.std.specs.Prelude.{Bool, ℕ, eqb}
-use Rattle.octets.specs.Octets.{if◌then◌else◌}
+use Rattle.std.specs.Prelude.{Bool, ℕ, eqb, if◌then◌else◌}
 use Rattle.field_states.specs.declared.Blanks.{Blanks}
 use Rattle.field_states.specs.code.States.{after_blank, after_cr, after_lf}
 

@@ -1,6 +1,6 @@
 -- A reader of the Identity-Alignment field: a state, and a step for each octet.
-use Rattle.std.specs.Prelude.{[], ◌∷◌, Bool, true, false, ◌&&◌, ◌||◌, not, ℕ, suc, ◌+◌, ◌-◌, eqb, leb, length, drop}
-use Rattle.octets.specs.Octets.{Octets, octets, if◌then◌else◌, is_empty, between, lower_octet, is_blank}
+use Rattle.std.specs.Prelude.{[], ◌∷◌, Bool, true, false, ◌&&◌, ◌||◌, not, ℕ, suc, ◌+◌, ◌-◌, eqb, leb, length, drop, if◌then◌else◌}
+use Rattle.octets.specs.Octets.{Octets, octets, is_empty, between, lower_octet, is_blank}
 use Rattle.octets.specs.Refusing.{OrRefused, ok, not_ok, refusal}
 use Rattle.field.specs.declared.NamedMethods.{NamedMethods}
 use Rattle.field_states.specs.declared.Word.{Word}

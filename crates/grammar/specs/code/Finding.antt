@@ -1,7 +1,7 @@
 -- Texts of a grammar, and the first octet that none of its texts can have, found octet by octet.
-use Rattle.std.specs.Prelude.{◌≡◌, [], ◌∷◌, Bool, true, false, ℕ, suc, ◌≤◌, ◌<◌, leb, length, take}
+use Rattle.std.specs.Prelude.{◌≡◌, [], ◌∷◌, Bool, true, false, ℕ, suc, ◌≤◌, ◌<◌, leb, length, take, if◌then◌else◌}
 use Rattle.std.proofs.Math.Option.{Option, none as nothing, some as just}
-use Rattle.octets.specs.Octets.{Octets, if◌then◌else◌, between}
+use Rattle.octets.specs.Octets.{Octets, between}
 use Rattle.grammar.specs.Grammar.{Grammar, none, empty, range, ◌then◌, ◌or◌, many, Text, Viable, Fault}
 
 unfoldable pub has_empty : Grammar → Bool

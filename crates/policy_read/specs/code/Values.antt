@@ -1,6 +1,6 @@
 -- The values of the tags that were gathered, and what they set.
-use Rattle.std.specs.Prelude.{false, ℕ, take, drop, get_or}
-use Rattle.octets.specs.Octets.{Octets, if◌then◌else◌, is_empty}
+use Rattle.std.specs.Prelude.{false, ℕ, take, drop, get_or, if◌then◌else◌}
+use Rattle.octets.specs.Octets.{Octets, is_empty}
 use Rattle.policy.specs.declared.Mode.{Mode}
 use Rattle.policy.specs.declared.Psd.{Psd}
 use Rattle.policy.specs.declared.Setting.{Setting}

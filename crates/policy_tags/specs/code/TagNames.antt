@@ -1,6 +1,6 @@
 -- The names of a text's tags, as code finds them.
-use Rattle.std.specs.Prelude.{List, [], ◌∷◌, Bool, not, ltb}
-use Rattle.octets.specs.Octets.{Octets, if◌then◌else◌, is_letter, lower, front, trim}
+use Rattle.std.specs.Prelude.{List, [], ◌∷◌, Bool, not, ltb, if◌then◌else◌}
+use Rattle.octets.specs.Octets.{Octets, is_letter, lower, front, trim}
 use Rattle.policy.specs.Tags.{well_formed}
 use Rattle.policy_words.specs.code.Rows.{tag_number}
 use Rattle.policy_tags.specs.code.TagValues.{value_of}

@@ -1,7 +1,7 @@
 -- The tags of a text and their values, as code finds them.
-use Rattle.std.specs.Prelude.{List, [], ◌∷◌, Bool, ◌&&◌, not, ℕ, ◌+◌, eqb, length, drop}
+use Rattle.std.specs.Prelude.{List, [], ◌∷◌, Bool, ◌&&◌, not, ℕ, ◌+◌, eqb, length, drop, if◌then◌else◌}
 use Rattle.std.proofs.Math.Option.{none as nothing, some as just}
-use Rattle.octets.specs.Octets.{Octets, if◌then◌else◌, is_empty, all, between, split, front}
+use Rattle.octets.specs.Octets.{Octets, is_empty, all, between, split, front}
 use Rattle.policy.specs.Tags.{Tag, name_and_value, tags_from, has_version, parts}
 
 -- `DMARC1`

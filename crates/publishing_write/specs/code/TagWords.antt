@@ -1,6 +1,6 @@
 -- A record's tags by the numbers of their words (`policy_words`). 25 is past the table: no word.
-use Rattle.std.specs.Prelude.{List, [], ◌∷◌, ◌++◌, Bool, true, false, ℕ, suc, leb}
-use Rattle.octets.specs.Octets.{Octets, if◌then◌else◌}
+use Rattle.std.specs.Prelude.{List, [], ◌∷◌, ◌++◌, Bool, true, false, ℕ, suc, leb, if◌then◌else◌}
+use Rattle.octets.specs.Octets.{Octets}
 use Rattle.policy.specs.declared.Policy.{Policy}
 use Rattle.policy.specs.declared.Setting.{Setting}
 use Rattle.policy.specs.declared.Mode.{Mode}

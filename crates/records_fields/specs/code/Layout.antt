@@ -1,7 +1,7 @@
 -- A sheet's records where they lie: a record is the text from its mark on.
-use Rattle.std.specs.Prelude.{◌≡◌, List, [], ◌∷◌, Bool, ◌&&◌, ℕ, zero, suc, ◌+◌, ◌-◌, length, take, drop, get_or}
+use Rattle.std.specs.Prelude.{◌≡◌, List, [], ◌∷◌, Bool, ◌&&◌, ℕ, zero, suc, ◌+◌, ◌-◌, length, take, drop, get_or, if◌then◌else◌}
 use Rattle.std.proofs.Math.Option.{Option, none as nothing, some as just}
-use Rattle.octets.specs.Octets.{Octets, octets, same, same_text, if◌then◌else◌}
+use Rattle.octets.specs.Octets.{Octets, octets, same, same_text}
 use Rattle.octets.specs.Framing.{mark_of, body_of, after_record}
 use Rattle.octets.specs.Refusing.{ok, not_ok, refusal}
 use Rattle.domain.specs.Domain.{without_dot}

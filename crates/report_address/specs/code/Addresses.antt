@@ -1,6 +1,6 @@
 -- The tests of an open address, by its numbers (`report_form`'s `ReportReading`).
-use Rattle.std.specs.Prelude.{List, Bool, ◌&&◌, ◌||◌, not, ℕ, ◌+◌, ◌*◌, eqb, leb, ltb}
-use Rattle.octets.specs.Octets.{if◌then◌else◌, is_digit}
+use Rattle.std.specs.Prelude.{List, Bool, ◌&&◌, ◌||◌, not, ℕ, ◌+◌, ◌*◌, eqb, leb, ltb, if◌then◌else◌}
+use Rattle.octets.specs.Octets.{is_digit}
 use Rattle.report_form.specs.code.ReportReading.{Kind, either, dotted, grouped, can_be_dotted, can_be_grouped, Address, digit_value, lower_hex, is_last}
 
 unfoldable pub kind_of : ℕ → Kind

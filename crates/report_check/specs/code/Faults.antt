@@ -1,6 +1,6 @@
 -- The first refusal that is due of a list that was cleared; 0 is none.
-use Rattle.std.specs.Prelude.{List, Bool, not, ℕ}
-use Rattle.octets.specs.Octets.{if◌then◌else◌, all}
+use Rattle.std.specs.Prelude.{List, Bool, not, ℕ, if◌then◌else◌}
+use Rattle.octets.specs.Octets.{all}
 use Rattle.domain.specs.Domain.{Domain}
 use Rattle.rows.specs.declared.Row.{Row}
 use Rattle.rows.specs.Lists.{Lists}

@@ -1,6 +1,6 @@
 -- Where a word leads, by its node's number and its place among the node's words.
-use Rattle.std.specs.Prelude.{◌≡◌, List, [], ◌∷◌, Bool, true, false, ℕ, ◌+◌, ◌-◌, ◌≤◌, ◌<◌, eqb, leb, get_or}
-use Rattle.octets.specs.Octets.{if◌then◌else◌, flag, between}
+use Rattle.std.specs.Prelude.{◌≡◌, List, [], ◌∷◌, Bool, true, false, ℕ, ◌+◌, ◌-◌, ◌≤◌, ◌<◌, eqb, leb, get_or, if◌then◌else◌}
+use Rattle.octets.specs.Octets.{flag, between}
 use Rattle.report_states.specs.Standing.{Word, w_more, word_goes}
 use Rattle.report_words.specs.code.Table.{word_nodes}
 use Rattle.report_kept.specs.declared.ReaderState.{ReaderState}

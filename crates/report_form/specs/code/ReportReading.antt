@@ -1,8 +1,8 @@
 -- Reading an aggregate report (document 02, Ask 10): the program that reads Ask 9's form.
-use Rattle.std.specs.Prelude.{List, [], ◌∷◌, ◌++◌, Bool, true, false, ◌&&◌, ◌||◌, not, ℕ, zero, suc, ◌+◌, ◌-◌, ◌*◌, ◌/◌, ◌%◌, eqb, leb, ltb, length}
+use Rattle.std.specs.Prelude.{List, [], ◌∷◌, ◌++◌, Bool, true, false, ◌&&◌, ◌||◌, not, ℕ, zero, suc, ◌+◌, ◌-◌, ◌*◌, ◌/◌, ◌%◌, eqb, leb, ltb, length, if◌then◌else◌}
 use Rattle.std.proofs.Math.Option.{Option, none as nothing, some as just}
 use Prim.Native.String.{String}
-use Rattle.octets.specs.Octets.{Octets, octets, if◌then◌else◌, same, between, is_digit, one_of}
+use Rattle.octets.specs.Octets.{Octets, octets, same, between, is_digit, one_of}
 use Rattle.octets.specs.Refusing.{OrRefused}
 use Rattle.domain.specs.Domain.{Domain, domain_octet}
 use Rattle.reporting.specs.FileName.{alphanumeric}

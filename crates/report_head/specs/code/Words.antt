@@ -1,6 +1,6 @@
 -- The words of `policy_published` and the tags between them, by their numbers.
-use Rattle.std.specs.Prelude.{List, [], ◌∷◌, Bool, true, false, ℕ, leb}
-use Rattle.octets.specs.Octets.{Octets, octets, if◌then◌else◌}
+use Rattle.std.specs.Prelude.{List, [], ◌∷◌, Bool, true, false, ℕ, leb, if◌then◌else◌}
+use Rattle.octets.specs.Octets.{Octets, octets}
 use Rattle.policy.specs.declared.Policy.{Policy}
 use Rattle.policy.specs.declared.Setting.{Setting}
 use Rattle.policy.specs.declared.Mode.{Mode}

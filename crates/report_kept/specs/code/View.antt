@@ -1,6 +1,6 @@
 -- The program that is left of what a reader keeps; every value of it is read.
-use Rattle.std.specs.Prelude.{◌≡◌, List, [], ◌∷◌, ◌++◌, Bool, true, false, ◌&&◌, ◌||◌, ℕ, zero, suc, ◌+◌, eqb, leb, ltb, length, take}
-use Rattle.octets.specs.Octets.{Octets, if◌then◌else◌, is_set, between}
+use Rattle.std.specs.Prelude.{◌≡◌, List, [], ◌∷◌, ◌++◌, Bool, true, false, ◌&&◌, ◌||◌, ℕ, zero, suc, ◌+◌, eqb, leb, ltb, length, take, if◌then◌else◌}
+use Rattle.octets.specs.Octets.{Octets, is_set, between}
 use Rattle.parsing.specs.Reads.{Reads, give, ◌>>=◌}
 use Rattle.parsing_steps.specs.Stepping.{Step, on, refused, step_of, shut}
 use Rattle.report_form.specs.ReportForm.{Said}

@@ -1,6 +1,6 @@
 -- What an octet of a value says, as a step of the program that reads it.
-use Rattle.std.specs.Prelude.{◌≡◌, [], ◌∷◌, ◌++◌, ℕ, ◌+◌, ◌-◌, ◌<◌, eqb}
-use Rattle.octets.specs.Octets.{Octets, if◌then◌else◌}
+use Rattle.std.specs.Prelude.{◌≡◌, [], ◌∷◌, ◌++◌, ℕ, ◌+◌, ◌-◌, ◌<◌, eqb, if◌then◌else◌}
+use Rattle.octets.specs.Octets.{Octets}
 use Rattle.parsing.specs.Reads.{Reads, done}
 use Rattle.parsing_steps.specs.Stepping.{Step, on, refused, step_of}
 use Rattle.report_form.specs.ReportForm.{Said}

@@ -1,6 +1,6 @@
 -- Where a literal leads, by its number and what is known.
-use Rattle.std.specs.Prelude.{◌≡◌, List, [], ◌∷◌, Bool, true, false, ◌||◌, ℕ, ◌+◌, ◌<◌, eqb, leb, ltb, get_or}
-use Rattle.octets.specs.Octets.{if◌then◌else◌, is_set}
+use Rattle.std.specs.Prelude.{◌≡◌, List, [], ◌∷◌, Bool, true, false, ◌||◌, ℕ, ◌+◌, ◌<◌, eqb, leb, ltb, get_or, if◌then◌else◌}
+use Rattle.octets.specs.Octets.{is_set}
 use Rattle.report_states.specs.Standing.{Literal, l_feedback, literal_goes}
 use Rattle.report_words.specs.code.Table.{literals}
 use Rattle.report_kept.specs.declared.ReaderState.{ReaderState}

@@ -1,6 +1,5 @@
 -- The numbers that tell of a state.
-use Rattle.std.specs.Prelude.{Bool, true, false, eqb}
-use Rattle.octets.specs.Octets.{if◌then◌else◌}
+use Rattle.std.specs.Prelude.{Bool, true, false, eqb, if◌then◌else◌}
 use Rattle.report_kept.specs.declared.ReaderState.{ReaderState}
 use Rattle.report_parts.specs.declared.Told.{Told}
 

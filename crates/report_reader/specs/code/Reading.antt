@@ -1,6 +1,6 @@
 -- What a part of the text, and its end, leave of a reader.
-use Rattle.std.specs.Prelude.{◌≡◌, List, Bool, true, false, ℕ, ◌≤◌, ◌<◌, eqb, length, take}
-use Rattle.octets.specs.Octets.{Octets, if◌then◌else◌}
+use Rattle.std.specs.Prelude.{◌≡◌, List, Bool, true, false, ℕ, ◌≤◌, ◌<◌, eqb, length, take, if◌then◌else◌}
+use Rattle.octets.specs.Octets.{Octets}
 use Rattle.octets.specs.Refusing.{OrRefused, ok, not_ok, refusal}
 use Rattle.parsing.specs.Reads.{feed, ended, closed}
 use Rattle.parsing_limit.specs.Limits.{limited}

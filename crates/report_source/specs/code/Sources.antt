@@ -1,6 +1,6 @@
 -- An open address by its numbers, every value of which is read: those that no text leads to take no octet.
-use Rattle.std.specs.Prelude.{◌≡◌, List, [], ◌∷◌, ◌++◌, ◌⊎◌, Bool, true, false, ◌&&◌, ℕ, ◌+◌, ◌*◌, ◌≤◌, ◌<◌, eqb, leb, ltb, length, get_or}
-use Rattle.octets.specs.Octets.{Octets, if◌then◌else◌, same}
+use Rattle.std.specs.Prelude.{◌≡◌, List, [], ◌∷◌, ◌++◌, ◌⊎◌, Bool, true, false, ◌&&◌, ℕ, ◌+◌, ◌*◌, ◌≤◌, ◌<◌, eqb, leb, ltb, length, get_or, if◌then◌else◌}
+use Rattle.octets.specs.Octets.{Octets, same}
 use Rattle.parsing.specs.Reads.{Reads, done, octet_where}
 use Rattle.parsing_steps.specs.Stepping.{Step, on, refused, step_of}
 use Rattle.report_form.specs.ReportForm.{Said}

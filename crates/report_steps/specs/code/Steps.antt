@@ -1,7 +1,6 @@
 -- What an octet says, by the program that reads the form (`report_form`'s `ReportReading`).
-use Rattle.std.specs.Prelude.{Bool, ℕ, ◌+◌, ◌-◌, ◌*◌, eqb, leb}
+use Rattle.std.specs.Prelude.{Bool, ℕ, ◌+◌, ◌-◌, ◌*◌, eqb, leb, if◌then◌else◌}
 use Rattle.std.proofs.Math.Option.{Option, none as nothing, some as just}
-use Rattle.octets.specs.Octets.{if◌then◌else◌}
 use Rattle.report_form.specs.code.ReportReading.{number_refused}
 use Rattle.report_steps.specs.declared.Digits.{Digits}
 

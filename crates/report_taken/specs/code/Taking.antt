@@ -1,6 +1,6 @@
 -- The reader that a state and a row's octets are: every value of them is one, and it takes no more octets than its count can tell.
-use Rattle.std.specs.Prelude.{◌≡◌, List, [], ◌∷◌, Bool, true, false, ℕ, eqb, length}
-use Rattle.octets.specs.Octets.{Octets, if◌then◌else◌}
+use Rattle.std.specs.Prelude.{◌≡◌, List, [], ◌∷◌, Bool, true, false, ℕ, eqb, length, if◌then◌else◌}
+use Rattle.octets.specs.Octets.{Octets}
 use Rattle.octets.specs.Refusing.{refusal}
 use Rattle.parsing.specs.Reads.{Left, open_at, stuck, Reader, Fed, feed}
 use Rattle.parsing_limit.specs.Limits.{limited}

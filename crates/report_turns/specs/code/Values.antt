@@ -1,6 +1,5 @@
 -- What an octet of a text, an id, a number or a name says to a reader's state.
-use Rattle.std.specs.Prelude.{◌≡◌, List, [], ◌∷◌, Bool, true, false, ℕ, ◌+◌, ◌-◌, ◌≤◌, ◌<◌, ◌^◌, eqb, get_or}
-use Rattle.octets.specs.Octets.{if◌then◌else◌}
+use Rattle.std.specs.Prelude.{◌≡◌, List, [], ◌∷◌, Bool, true, false, ℕ, ◌+◌, ◌-◌, ◌≤◌, ◌<◌, ◌^◌, eqb, get_or, if◌then◌else◌}
 use Rattle.report_states.specs.Standing.{Text, Number, Name, t_org, t_email, t_extra, n_begin, n_end, n_count, m_domain, m_author, m_signature, m_selector, m_sender}
 use Rattle.report_kept.specs.declared.ReaderState.{ReaderState}
 use Rattle.report_kept.specs.declared.Turn.{Turn}

@@ -1,8 +1,8 @@
 -- What the steps of taking an answer promise one another.
-use Rattle.std.specs.Prelude.{◌≡◌, Bool, true, false, ℕ, ◌≤◌, length}
+use Rattle.std.specs.Prelude.{◌≡◌, Bool, true, false, ℕ, ◌≤◌, length, if◌then◌else◌}
 use mathlib.Core.List.{List, [], flatten}
 use Rattle.std.proofs.Math.Option.{Option, none as nothing, some as just, map}
-use Rattle.octets.specs.Octets.{Octets, if◌then◌else◌}
+use Rattle.octets.specs.Octets.{Octets}
 use Rattle.octets.specs.Framing.{size_of}
 use Rattle.octets.specs.Lent.{over}
 use Rattle.txt_read.specs.declared.Front.{Front}

@@ -1,8 +1,8 @@
 -- What is kept between calls of where an evaluation stands: what is stored of each walk, and where the one open walk pauses. A name's answer moves
 -- it on, until another name lacks one or the verdict stands; nothing that was done is done again.
-use Rattle.std.specs.Prelude.{List, [], ◌∷◌, ◌++◌, map, Bool, true, false, ℕ}
+use Rattle.std.specs.Prelude.{List, [], ◌∷◌, ◌++◌, map, Bool, true, false, ℕ, if◌then◌else◌}
 use Rattle.std.proofs.Math.Option.{Option, none as nothing, some as just}
-use Rattle.octets.specs.Octets.{any, if◌then◌else◌}
+use Rattle.octets.specs.Octets.{any}
 use Rattle.lookup.specs.Lookup.{Name, Answers, find, Standing, needs, has}
 use Rattle.domain.specs.Domain.{Domain, targets, can_ask, asked_name}
 use Rattle.policy.specs.declared.Policy.{Policy}

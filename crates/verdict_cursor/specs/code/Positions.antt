@@ -1,6 +1,5 @@
 -- A place as an evaluation keeps it, read. Every value is read as a place.
-use Rattle.std.specs.Prelude.{ℕ, eqb}
-use Rattle.octets.specs.Octets.{if◌then◌else◌}
+use Rattle.std.specs.Prelude.{ℕ, eqb, if◌then◌else◌}
 use Rattle.policy.specs.declared.Policy.{Policy}
 use Rattle.txt_codes.specs.code.Codes.{settings_of}
 use Rattle.verdict.specs.declared.AppliedPolicy.{AppliedPolicy}

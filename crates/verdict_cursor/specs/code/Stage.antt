@@ -1,7 +1,7 @@
 -- Where an evaluation stands between answers: what is done is not done again, and the next step looks at one walk alone.
-use Rattle.std.specs.Prelude.{List, [], ◌++◌, Bool, true, false}
+use Rattle.std.specs.Prelude.{List, [], ◌++◌, Bool, true, false, if◌then◌else◌}
 use Rattle.std.proofs.Math.Option.{Option, none as nothing, some as just}
-use Rattle.octets.specs.Octets.{any, if◌then◌else◌}
+use Rattle.octets.specs.Octets.{any}
 use Rattle.lookup.specs.Lookup.{◌>>=◌, Lookups, done, Answers}
 use Rattle.lookup.specs.code.Following.{Follows}
 use Rattle.domain.specs.Domain.{Domain}

@@ -1,7 +1,7 @@
 -- How it is read where code stands between calls, and what the functions promise that move it on. Every value is read, so that the promises have
 -- no premise.
-use Rattle.std.specs.Prelude.{◌≡◌, List, [], ◌∷◌, ◌&&◌, ℕ, zero, suc, ◌+◌, ◌-◌, ◌≤◌, min, leb, drop, get_or}
-use Rattle.octets.specs.Octets.{Octets, if◌then◌else◌}
+use Rattle.std.specs.Prelude.{◌≡◌, List, [], ◌∷◌, ◌&&◌, ℕ, zero, suc, ◌+◌, ◌-◌, ◌≤◌, min, leb, drop, get_or, if◌then◌else◌}
+use Rattle.octets.specs.Octets.{Octets}
 use Rattle.lookup.specs.Lookup.{Answers}
 use Rattle.policy.specs.declared.Policy.{Policy}
 use Rattle.txt.specs.declared.Reply.{Reply}

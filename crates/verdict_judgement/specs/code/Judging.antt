@@ -1,6 +1,6 @@
 -- How a stored message and a verdict in numbers are read.
-use Rattle.std.specs.Prelude.{◌≡◌, List, Bool, ◌||◌, ℕ, ◌-◌, min, length, drop}
-use Rattle.octets.specs.Octets.{Octets, if◌then◌else◌}
+use Rattle.std.specs.Prelude.{◌≡◌, List, Bool, ◌||◌, ℕ, ◌-◌, min, length, drop, if◌then◌else◌}
+use Rattle.octets.specs.Octets.{Octets}
 use Rattle.lookup.specs.Lookup.{Standing, needs, has}
 use Rattle.domain.specs.declared.Octet.{Octet}
 use Rattle.domain.specs.Domain.{asked_name}

@@ -1,6 +1,6 @@
 -- What comparing makes of one identifier, and how code says it.
 use Rattle.std.proofs.Math.Option.{none as nothing}
-use Rattle.octets.specs.Octets.{if◌then◌else◌}
+use Rattle.std.specs.Prelude.{if◌then◌else◌}
 use Rattle.lookup.specs.Lookup.{Answers}
 use Rattle.domain.specs.Domain.{Domain, targets}
 use Rattle.policy.specs.declared.Settings.{Settings}

@@ -1,6 +1,6 @@
 -- One reply more among those kept.
-use Rattle.std.specs.Prelude.{◌≡◌, List, [], ◌∷◌, ◌++◌, ℕ, ◌+◌, ◌*◌, ◌≤◌, ◌<◌, leb, length, drop}
-use Rattle.octets.specs.Octets.{Octets, if◌then◌else◌}
+use Rattle.std.specs.Prelude.{◌≡◌, List, [], ◌∷◌, ◌++◌, ℕ, ◌+◌, ◌*◌, ◌≤◌, ◌<◌, leb, length, drop, if◌then◌else◌}
+use Rattle.octets.specs.Octets.{Octets}
 use Rattle.domain.specs.declared.Octet.{Octet}
 use Rattle.domain.specs.Domain.{asked_name}
 use Rattle.txt.specs.declared.Reply.{Reply}

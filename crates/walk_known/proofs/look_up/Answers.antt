@@ -4,7 +4,7 @@ use mathlib.Core.Option.{some as just}
 use Prim.Native.Nat.{◌+◌, ◌-◌}
 use native.Mathlib.Omega.{arith}
 use lib.ListN.{drop, get_or}
-use Rattle.octets.specs.Octets.{if◌then◌else◌}
+use Rattle.std.specs.Prelude.{if◌then◌else◌}
 use Rattle.domain.specs.Domain.{asked_name}
 use Rattle.txt_codes.specs.code.Codes.{reply_of}
 use Rattle.walk_known.specs.code.Kept.{known, looked}

@@ -1,7 +1,7 @@
 -- Answers that were accepted, kept as numbers: where each one's target lies in the stored domains, and what it said.
-use Rattle.std.specs.Prelude.{List, [], ◌∷◌, ℕ, zero, suc}
+use Rattle.std.specs.Prelude.{List, [], ◌∷◌, ℕ, zero, suc, if◌then◌else◌}
 use Rattle.std.proofs.Math.Option.{Option, none as nothing, some as just}
-use Rattle.octets.specs.Octets.{Octets, part_of, if◌then◌else◌}
+use Rattle.octets.specs.Octets.{Octets, part_of}
 use Rattle.lookup.specs.Lookup.{Answers, Name, find}
 use Rattle.domain.specs.Domain.{Domain, can_ask, asked_name}
 use Rattle.txt.specs.declared.Reply.{Reply}

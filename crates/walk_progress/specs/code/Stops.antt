@@ -1,7 +1,6 @@
 -- How code's answers on the way of a walk are read, and what its functions promise. Every value is read.
-use Rattle.std.specs.Prelude.{◌≡◌, List, ℕ, ◌-◌, eqb, length, drop}
+use Rattle.std.specs.Prelude.{◌≡◌, List, ℕ, ◌-◌, eqb, length, drop, if◌then◌else◌}
 use Rattle.std.proofs.Math.Option.{Option, none as nothing, some as just}
-use Rattle.octets.specs.Octets.{if◌then◌else◌}
 use Rattle.lookup.specs.Lookup.{Answers}
 use Rattle.domain.specs.Domain.{Domain, targets}
 use Rattle.domain_labels.specs.declared.Target.{Target}

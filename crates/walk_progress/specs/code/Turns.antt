@@ -1,7 +1,7 @@
 -- A walk that keeps only the last record found so far, target by target.
-use Rattle.std.specs.Prelude.{List, [], ◌∷◌, ◌+◌}
+use Rattle.std.specs.Prelude.{List, [], ◌∷◌, ◌+◌, if◌then◌else◌}
 use Rattle.std.proofs.Math.Option.{Option, none as nothing, some as just}
-use Rattle.octets.specs.Octets.{same, if◌then◌else◌}
+use Rattle.octets.specs.Octets.{same}
 use Rattle.lookup.specs.Lookup.{Lookups, done, ◌>>=◌}
 use Rattle.domain.specs.Domain.{Domain, label_count, last_labels}
 use Rattle.policy.specs.declared.Psd.{Psd}

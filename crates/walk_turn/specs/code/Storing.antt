@@ -1,6 +1,5 @@
 -- What is stored of a walk.
-use Rattle.std.specs.Prelude.{leb}
-use Rattle.octets.specs.Octets.{if◌then◌else◌}
+use Rattle.std.specs.Prelude.{leb, if◌then◌else◌}
 use Rattle.walk_progress.specs.code.Stored.{Stored, still_open, failed, from}
 
 -- a place past 253, which no domain that is stored has, is not stored
