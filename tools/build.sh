@@ -5,13 +5,13 @@
 
 program=$root/target/bin/dmarc
 library=$root/target/lib/libwaslidhaj.a
-# The crates whose functions the library has.
-parts="sheet_run waslidhaj_open waslidhaj_calls waslidhaj_reads waslidhaj_rows waslidhaj_gather waslidhaj_names waslidhaj_report waslidhaj_records waslidhaj_fields waslidhaj_check waslidhaj_reader"
+# The crates whose functions the library has, each a static library.
+parts="sheet_run_c waslidhaj_open waslidhaj_calls waslidhaj_reads waslidhaj_rows waslidhaj_gather waslidhaj_names waslidhaj_report waslidhaj_records waslidhaj_fields waslidhaj_check waslidhaj_reader"
 tools=$root/tools/target/release/dmarc-tools
 records=$root/tools/target/release/dmarc-records
 # What rt said when it last proved for a script.
 log=$root/target/log/$self-build.log
-# What all that is proved is made from.
+# What all that is proved is made from, but for the folders out/, where rt keeps what it made.
 sources=("$root/crates" "$root/crates.txt")
 # It is held while something is built; its time is when that was begun.
 lock=$root/target/lock
@@ -96,7 +96,7 @@ fail_to_build() {
 is_current() {
   local made=$1
   shift
-  [ -e "$made" ] && [ -z "$(find "$@" -type f -newer "$made" -print -quit)" ]
+  [ -e "$made" ] && [ -z "$(find "$@" -type d -name out -prune -o -type f -newer "$made" -print -quit)" ]
 }
 
 # Says it once.
@@ -145,55 +145,48 @@ ensure() {
   drop_lock
 }
 
-# How many crates some stand on, themselves among them.
-count_crates() {
+# The crates that some stand on, themselves among them.
+list_crates() {
   awk -v wanted="$*" '
     function visit(name, on, count, i) {
       if (!(name in deps) || name in seen) return
       seen[name] = 1
-      total++
+      print name
       count = split(deps[name], on, " ")
       for (i = 1; i <= count; i++) visit(on[i])
     }
     { sub(/#.*/, "") }
-    split($0, line, ":") == 2 { deps[line[1]] = line[2] }
-    END { count = split(wanted, name, " "); for (i = 1; i <= count; i++) visit(name[i]); print total + 0 }
+    split($0, line, ":") == 2 { split(line[1], word, " "); deps[word[1]] = line[2] }
+    END { count = split(wanted, name, " "); for (i = 1; i <= count; i++) visit(name[i]) }
   ' "$root/crates.txt"
-}
-
-# Has rt prove again what its stamps say is proved though it is not there: it looks at the stamps alone.
-forget_missing() {
-  local stamp name
-  for stamp in "$root"/target/stamp/*; do
-    name=${stamp##*/}
-    [ -e "$root/target/rlib/$name.rlib" ] || [ -e "$root/target/bin/$name" ] || rm -f "$stamp"
-  done
 }
 
 time_gone() { printf '%dm%02ds' $((SECONDS / 60)) $((SECONDS % 60)); }
 
-# One line for each crate that rt proves. Those of which it has a proof are counted with no word.
+# One line for each crate that rt proves. Of those of which it has a proof it says nothing: they are counted, with no word,
+# when the first crate that stands on them is proved.
 progress() {
-  local total=$1 line name count=0
+  local total=$1 line name='' checked=0 below
   local -A seen
   while IFS= read -r line; do
     case $line in
-      "rt: "*" proved ("*) name=${line#rt: } name=${name%% *} ;;
-      "rt: target/staticlib/lib"*) name=${line#rt: target/staticlib/lib} name=${name%%.a *} ;;
-      *) continue ;;
-    esac
-    [ -n "${seen[$name]-}" ] || count=$((count + 1))
-    seen[$name]=yes
-    case $line in
-      *" proved (unchanged"*) ;;
-      *) say "$count of $total proved: $name ($(time_gone) gone)" ;;
+      "crate "*": modules "*) name=${line#crate } name=${name%%:*} checked=${line##*checked=} ;;
+      "logic=proved "*)
+        if [ -z "$name" ] || [ -n "${seen[$name]-}" ]; then
+          continue
+        fi
+        for below in $(list_crates "$name"); do
+          seen[$below]=yes
+        done
+        [ "$checked" = 0 ] || say "${#seen[@]} of $total proved: $name ($(time_gone) gone)"
+        ;;
     esac
   done
 }
 
-# rt with some words, in the repository.
+# rt with some words, in a crate's folder.
 run_rt() {
-  (cd "$root" && rt "$@" 2>&1)
+  (cd "$root/crates/$1" && rt "${@:2}" 2>&1)
 }
 
 # Runs words that call rt, with a log and progress among so many crates.
@@ -205,25 +198,36 @@ run_with_progress() {
 
 # Proves crates by words that call rt, or says what failed.
 prove() {
-  local crates=$1 total
+  local crates total
+  mapfile -t crates < <(list_crates "$1")
+  total=${#crates[@]}
   shift
   need rt "the Rattle toolchain proves and builds what is run"
-  total=$(count_crates "$crates")
-  forget_missing
   say "looking at $total crates, and proving those that have no proof yet; the first time this takes some minutes"
   attend_all run_with_progress "$total" "$@" ||
     fail_to_build "rt failed; ${log#"$root"/} has what it said"
 }
 
-# rt removes the stamp of a program before it is made, and sets it when it has run.
-has_program() {
-  [ -e "$root/target/stamp/dmarc" ] && is_current "$program" "${sources[@]}"
+# Puts what rt made of the sources in its place, where it is there whole or not at all.
+keep() {
+  local made=$1 place=$2
+  local new=${place%/*}/new
+  mkdir -p "${place%/*}" && cp "$made" "$new" && set_time "$new" "${sources[@]}" && mv -f "$new" "$place" && return
+  rm -f "$new"
+  return 1
 }
 
+has_program() {
+  is_current "$program" "${sources[@]}"
+}
+
+# rt builds a program to run it, here on no input.
 build_program() {
-  prove dmarc run_rt check dmarc
-  [ -e "$program" ] || fail_to_build "rt made no ${program#"$root"/}; ${log#"$root"/} has what it said"
-  set_time "$program" "${sources[@]}"
+  local made=$root/crates/dmarc/out/dmarc
+  left+=("${program%/*}/new")
+  prove dmarc run_rt dmarc run
+  [ -e "$made" ] || fail_to_build "rt made no ${made#"$root"/}; ${log#"$root"/} has what it said"
+  keep "$made" "$program" || fail_to_build "${program#"$root"/} cannot be written"
 }
 
 # The proved program.
@@ -256,7 +260,7 @@ has_library() {
   is_current "$library" "${sources[@]}"
 }
 
-# The archive of a part, which comes here when rt has made all of it.
+# The archive of a part, which comes here when rt has made all of it, and stays though rt makes another.
 part_archive() {
   printf '%s' "$root/target/lib/parts/lib$1.a"
 }
@@ -264,9 +268,8 @@ part_archive() {
 build_parts() {
   local part
   for part in "$@"; do
-    run_rt staticlib "$part" || return
-    set_time "$root/target/staticlib/lib$part.a" "${sources[@]}" || return
-    mv "$root/target/staticlib/lib$part.a" "$(part_archive "$part")" || return
+    run_rt "$part" lib || return
+    keep "$root/crates/$part/out/lib$part.a" "$(part_archive "$part")" || return
   done 2>&1
 }
 
@@ -289,6 +292,7 @@ build_library() {
   local part lacking=()
   need ar "it joins the parts of the library; gcc's packages have it"
   mkdir -p "$root/target/lib/parts" || fail_to_build "$root/target/lib cannot be written"
+  left+=("$root/target/lib/parts/new")
   for part in $parts; do
     is_current "$(part_archive "$part")" "${sources[@]}" || lacking+=("$part")
   done

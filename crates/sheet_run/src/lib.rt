@@ -2,7 +2,7 @@
 #![tactic(auto)]
 
 ghost use Rattle.std.specs.Prelude.{◌≡◌, ◌≤◌, length, take};
-ghost use Rattle.octets.specs.Lent.{Writes, left};
+ghost use Rattle.octets.specs.Lent.{Writes};
 ghost use Rattle.sheet.specs.Printed.{printed};
 ghost use Rattle.sheet_turn.specs.code.Conversing.{Converses};
 ghost use Rattle.sheet_run.specs.code.Beginning.{Begins};
@@ -80,16 +80,4 @@ pub fn run(sheet: &[u8], out: &mut [u8]) -> Written
     let mut lines = [0u8; 36864];
     let end = compose(sheet, &mut lines);
     octets_write::write(text_parts::part(&lines, 0, end), out)
-}
-
-// For programs in other languages: how long the text is that is printed for a sheet. It is written into the front of lent
-// memory where there is room, and which the sheet does not overlap: the C header's `waslidhaj_run` sees to it.
-#[unsafe(no_mangle)]
-pub extern "C" fn waslidhaj_run_apart(sheet: &[u8], out: &mut [u8]) -> usize
-    ensures { (result ≡ length (printed sheet.now)) × (out.new ≡ left (printed sheet.now) out.old) }
-{
-    match run(sheet, out) {
-        Written::Wrote(n) => n,
-        Written::Refused(f) => f.place,
-    }
 }

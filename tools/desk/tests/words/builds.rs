@@ -9,10 +9,13 @@ use crate::house::{parts, House, PRINTED};
 use desk::script::Ended;
 
 /// Makes each part of the library a text of its own name.
-const PARTS_PROVER: &str = "echo \"$2\" >> calls
-mkdir -p target/staticlib
-echo \"$2\" > \"target/staticlib/lib$2.a\"
-echo \"rt: target/staticlib/lib$2.a has the functions of $2\"
+const PARTS_PROVER: &str = "part=${PWD##*/}
+[ \"$*\" = lib ] || exit 2
+echo \"$part\" >> ../../calls
+mkdir -p out
+echo \"$part\" > \"out/lib$part.a\"
+echo \"crate $part: modules loaded=2 checked=1\"
+echo 'logic=proved functions=1'
 ";
 /// In place of archives: texts, joined to one.
 pub const JOINER: &str = "case $1 in
@@ -102,7 +105,7 @@ fn a_part_that_is_not_all_written_is_made_again() {
     let house = House::with_joiner();
     house.program(
         "bin/rt",
-        "mkdir -p target/staticlib; echo half > \"target/staticlib/lib$2.a\"; exit 2",
+        "mkdir -p out; echo half > \"out/lib${PWD##*/}.a\"; exit 2",
     );
     house.builds_no_library("library: rt failed; target/log/library-build.log has what it said");
     house.program("bin/rt", PARTS_PROVER);
@@ -114,7 +117,7 @@ fn a_program_that_is_not_all_written_is_made_again() {
     let house = House::new().with_tools();
     house.program(
         "bin/rt",
-        "mkdir -p target/bin; echo half > target/bin/dmarc; chmod 755 target/bin/dmarc; exit 2",
+        "mkdir -p out; echo half > out/dmarc; chmod 755 out/dmarc; exit 2",
     );
     assert_eq!(house.dmarc(&["x.txt"]).status, 1);
     house.program("bin/rt", &prover());
@@ -122,22 +125,19 @@ fn a_program_that_is_not_all_written_is_made_again() {
     assert_eq!((ended.status, ended.printed.as_str()), (0, PRINTED));
 }
 
-/// As rt does: a crate with a stamp is left as it is, and one without is made.
+/// As rt does: what a crate's stamp is true of is left as it is, and nothing is
+/// said of it; what has no stamp, or is not there, is made.
 fn prover() -> String {
     let program = House::makes_program();
+    let (octets, dmarc) = (House::says_proved("octets"), House::says_proved("dmarc"));
     format!(
-        "echo \"$*\" >> calls
-mkdir -p target/stamp target/rlib
-if [ -e target/stamp/octets ]; then
-  echo 'rt: octets proved (unchanged since it was last proved)'
-else
-  : > target/rlib/octets.rlib && : > target/stamp/octets && echo 'rt: octets proved (1 s)'
+        "echo \"${{PWD##*/}} $*\" >> ../../calls
+mkdir -p out ../octets/out
+if [ ! -e ../octets/out/stamp ] || [ ! -e ../octets/out/rlib ]; then
+  : > ../octets/out/rlib && : > ../octets/out/stamp && {octets}
 fi
-[ -e target/rlib/octets.rlib ] || exit 1
-if [ -e target/stamp/dmarc ]; then
-  echo 'rt: dmarc proved (unchanged since it was last proved)'
-else
-  {program}: > target/stamp/dmarc && echo 'rt: dmarc proved (1 s)'
+if [ ! -e out/stamp ] || [ ! -e out/dmarc ]; then
+  {program}: > out/stamp && {dmarc}
 fi
 "
     )
@@ -155,25 +155,41 @@ fn what_was_removed_is_made_again_though_its_stamp_is_there() {
     runs();
     fs::remove_file(house.path("target/bin/dmarc")).expect("a program");
     runs();
-    for file in ["target/bin/dmarc", "target/rlib/octets.rlib"] {
+    for file in [
+        "target/bin/dmarc",
+        "crates/dmarc/out/dmarc",
+        "crates/octets/out/rlib",
+    ] {
         fs::remove_file(house.path(file)).expect("a file");
     }
     runs();
-    assert_eq!(house.lines("calls"), ["check dmarc"; 3]);
+    assert_eq!(house.lines("calls"), ["dmarc run"; 3]);
+}
+
+/// What rt keeps beside the sources is none of them, however new it is.
+#[test]
+fn what_rt_keeps_in_the_crates_is_no_source() {
+    let house = House::new().with_tools();
+    house.program("bin/rt", &prover());
+    for _ in 0..2 {
+        assert_eq!(house.dmarc(&["x.txt"]).status, 0);
+        house.folder.write("crates/octets/out/incremental/kept", "");
+    }
+    assert_eq!(house.lines("calls"), ["dmarc run"]);
 }
 
 /// What is changed while it is built from is built again.
 #[test]
 fn a_source_that_changes_meanwhile() {
     let house = House::new().with_tools();
-    let changes = "echo '// newer' > crates/octets/src/lib.rt; sleep 0.1";
+    let changes = "echo '// newer' > ../octets/src/lib.rt; sleep 0.1";
     house.program("bin/rt", &format!("{changes}\n{}", prover()));
     assert_eq!(house.dmarc(&["x.txt"]).status, 0);
     house.program("bin/rt", &prover());
     for _ in 0..2 {
         assert_eq!(house.dmarc(&["x.txt"]).status, 0);
     }
-    assert_eq!(house.lines("calls"), ["check dmarc"; 2]);
+    assert_eq!(house.lines("calls"), ["dmarc run"; 2]);
 }
 
 /// Runs a script with its words kept.
@@ -202,11 +218,11 @@ const WAITING: &str = "another build is running here; waiting for it";
 #[test]
 fn a_second_script_waits_and_builds_nothing_again() {
     let house = House::new().with_tools();
-    let waits = "for _ in {1..300}; do [ ! -e go ] || break; sleep 0.1; done\n";
+    let waits = "for _ in {1..300}; do [ ! -e ../../go ] || break; sleep 0.1; done\n";
     house.program(
         "bin/rt",
         &format!(
-            "echo \"$*\" >> calls\n{waits}{}",
+            "echo \"${{PWD##*/}} $*\" >> ../../calls\n{waits}{}",
             prover().replace("calls", "again")
         ),
     );
@@ -225,14 +241,14 @@ fn a_second_script_waits_and_builds_nothing_again() {
     assert_eq!((first.status, first.printed.as_str()), (0, PRINTED));
     assert_eq!((second.status, second.printed.as_str()), (0, PRINTED));
     assert_eq!(house.folder.read("said"), format!("dmarc: {WAITING}\n"));
-    assert_eq!(house.lines("calls"), ["check dmarc"]);
+    assert_eq!(house.lines("calls"), ["dmarc run"]);
 }
 
 /// What a build leaves running does not hold the lock.
 #[test]
 fn the_lock_ends_with_the_script() {
     let house = House::new().with_tools();
-    let leaves = "sleep 20 < /dev/null > /dev/null 2>&1 & echo $! > left";
+    let leaves = "sleep 20 < /dev/null > /dev/null 2>&1 & echo $! > ../../left";
     house.program("bin/rt", &format!("{leaves}\n{}", prover()));
     assert_eq!(house.dmarc(&["x.txt"]).status, 0);
     fs::remove_file(house.path("target/bin/dmarc")).expect("a program");

@@ -8,15 +8,16 @@ use crate::house::{House, PRINTED};
 pub const LOOKING: &str = "dmarc: looking at 4 crates, and proving those that have no proof yet; \
                            the first time this takes some minutes";
 
-/// A made-up prover: says one crate unchanged and three proved, and makes the
-/// program.
+/// A made-up prover: says nothing of one crate, which it proved before, and of
+/// three that they are proved, and makes the program.
 fn prover(house: &House) {
+    let proved = ["domain", "policy", "dmarc"].map(House::says_proved);
     let lines = format!(
-        "[ \"$*\" = 'check dmarc' ] || exit 2
-echo 'rt: octets proved (unchanged since it was last proved)'
+        "[ \"${{PWD##*/}} $*\" = 'dmarc run' ] || exit 2
 echo 'many lines of its own' >&2
-for name in domain policy dmarc; do echo \"rt: $name proved (3 s)\"; done
-{}: > target/stamp/dmarc",
+{}
+{}",
+        proved.join("\n"),
         House::makes_program()
     );
     house.program("bin/rt", &lines);
@@ -61,8 +62,8 @@ dmarc: 4 of 4 proved: dmarc (gone)
     assert_eq!(timeless(&first.said), said);
     assert_eq!((first.status, first.printed.as_str()), (0, PRINTED));
     let log = house.folder.read("target/log/dmarc-build.log");
-    assert_eq!(log.lines().count(), 5);
-    assert!(log.contains("\nmany lines of its own\n"));
+    assert_eq!(log.lines().count(), 7);
+    assert!(log.starts_with("many lines of its own\n"));
     // What is there is not built again.
     let second = house.dmarc(&["x.txt"]);
     assert_eq!((second.status, second.said.as_str()), (0, ""));
@@ -73,10 +74,11 @@ dmarc: 4 of 4 proved: dmarc (gone)
 fn where_all_is_proved_nothing_is_said_to_be_proved() {
     let house = House::new().with_tools().with_program();
     house.make_older("target/bin/dmarc");
-    let lines = "for name in octets domain policy dmarc; do
-  echo \"rt: $name proved (unchanged since it was last proved)\"
-done";
-    house.program("bin/rt", lines);
+    let lines = format!(
+        "{}printf 'crate dmarc: modules loaded=3 checked=0\\nlogic=proved functions=1\\n'",
+        House::makes_program()
+    );
+    house.program("bin/rt", &lines);
     let touched = house.dmarc(&["x.txt"]);
     assert_eq!(touched.said, format!("{LOOKING}\n"));
     assert_eq!((touched.status, touched.printed.as_str()), (0, PRINTED));
@@ -90,12 +92,13 @@ done";
 fn words_come_when_there_is_something_to_say() {
     let house = House::new().with_tools();
     let lines = format!(
-        "said() {{ for _ in {{1..50}}; do ! grep -q \"$1\" said || return 0; sleep 0.1; done; exit 1; }}
+        "said() {{ for _ in {{1..50}}; do ! grep -q \"$1\" ../../said || return 0; sleep 0.1; done; exit 1; }}
 said 'looking at 4 crates'
 sleep 1.1
-echo 'rt: octets proved (1 s)'
+{}
 said '1 of 4 proved: octets (0m0[1-9]s gone)'
-{}: > target/stamp/dmarc",
+{}",
+        House::says_proved("octets"),
         House::makes_program()
     );
     house.program("bin/rt", &lines);
@@ -127,14 +130,15 @@ fn a_prover_that_fails() {
     let house = House::new().with_tools();
     house.program(
         "bin/rt",
-        "echo 'rt: octets NOT PROVED (exit 1, 2 s)'; exit 1",
+        "printf 'crate octets: modules loaded=2 checked=1\\nlogic=not-proved\\n'; exit 1",
     );
     let failed = "dmarc: rt failed; target/log/dmarc-build.log has what it said";
     house.fails(&["x.txt"], &format!("{LOOKING}\n{failed}"));
     let log = house.folder.read("target/log/dmarc-build.log");
-    assert_eq!(log, "rt: octets NOT PROVED (exit 1, 2 s)\n");
+    let said = "crate octets: modules loaded=2 checked=1\nlogic=not-proved\n";
+    assert_eq!(log, said);
     house.program("bin/rt", "exit 0");
-    let nothing = "dmarc: rt made no target/bin/dmarc; \
+    let nothing = "dmarc: rt made no crates/dmarc/out/dmarc; \
                    target/log/dmarc-build.log has what it said";
     house.fails(&["x.txt"], &format!("{LOOKING}\n{nothing}"));
 }

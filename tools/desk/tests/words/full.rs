@@ -183,9 +183,10 @@ fn the_library() {
     let little = (26 * parts().len() + 2 * 25 + 10) * PAGE;
     house.program(
         "bin/rt",
-        "mkdir -p target/staticlib
-head -c 102400 /dev/zero > \"target/$2.o\" && ar rcD \"target/staticlib/lib$2.a\" \"target/$2.o\" || exit 1
-rm \"target/$2.o\"",
+        "part=${PWD##*/}
+mkdir -p out
+head -c 102400 /dev/zero > \"out/$part.o\" && ar rcD \"out/lib$part.a\" \"out/$part.o\" || exit 1
+rm \"out/$part.o\"",
     );
     house.link("ar");
     let folder = house.path("target");
@@ -217,7 +218,7 @@ rm \"target/$2.o\"",
     house.program("bin/ar", &silent);
     house.program(
         "bin/rt",
-        "mkdir -p target/staticlib; head -c 102400 /dev/zero > \"target/staticlib/lib$2.a\"",
+        "mkdir -p out; head -c 102400 /dev/zero > \"out/lib${PWD##*/}.a\"",
     );
     let ended = disk(little).run(&house, "keep", &[]).expect("a disk");
     assert_eq!((ended.status, ended.printed.as_str()), (1, "parts\n"));
@@ -233,7 +234,7 @@ fn the_prover() {
     let makes = House::makes_program();
     house.program(
         "bin/rt",
-        &format!("head -c 500000 /dev/zero > target/big || exit 1\n{makes}: > target/stamp/dmarc"),
+        &format!("head -c 500000 /dev/zero > ../../target/big || exit 1\n{makes}"),
     );
     let folder = house.path("target");
     let disk = |octets| Disk {

@@ -47,12 +47,16 @@ impl House {
         for file in ["dmarc", "library", "tools/build.sh"] {
             folder.write(file, fs::read(root().join(file)).expect("a file"));
         }
-        let parts = parts().into_iter().map(|part| format!("{part}: policy\n"));
+        let parts = parts();
+        let lines = parts
+            .iter()
+            .map(|part| format!("{part} staticlib: policy\n"));
         folder.write(
             "crates.txt",
-            CRATES.to_string() + &parts.collect::<String>(),
+            CRATES.to_string() + &lines.collect::<String>(),
         );
-        for name in ["octets", "domain", "policy", "other", "dmarc"] {
+        let others = ["octets", "domain", "policy", "other", "dmarc"].map(String::from);
+        for name in others.into_iter().chain(parts) {
             folder.write(&format!("crates/{name}/src/lib.rt"), "");
         }
         for file in [
@@ -114,7 +118,6 @@ impl House {
     /// With a program that was proved.
     pub fn with_program(self) -> House {
         self.program("target/bin/dmarc", &format!("printf '{PRINTED}'"));
-        self.folder.write("target/stamp/dmarc", "");
         self
     }
 
@@ -139,16 +142,21 @@ impl House {
         path.join(file)
     }
 
-    /// Lines of bash with which a made-up prover makes the program, but not its
-    /// stamp.
+    /// Lines of bash with which a made-up prover, which runs in the crate's folder,
+    /// makes the program.
     pub fn makes_program() -> String {
         let printed = PRINTED.replace('\n', "\\\\n");
         format!(
-            "mkdir -p target/bin target/stamp
-printf '#!/usr/bin/env bash\\nprintf \"{printed}\"\\n' > target/bin/dmarc
-chmod 755 target/bin/dmarc
+            "mkdir -p out
+printf '#!/usr/bin/env bash\\nprintf \"{printed}\"\\n' > out/dmarc
+chmod 755 out/dmarc
 "
         )
+    }
+
+    /// A line of bash with which a made-up prover says that it proved a crate.
+    pub fn says_proved(name: &str) -> String {
+        format!("printf 'crate {name}: modules loaded=2 checked=1\\nlogic=proved functions=1\\n'")
     }
 
     /// A script of the house, to be run with only the house's own path.

@@ -1,5 +1,5 @@
 //! What the script `dmarc` prints, says and ends with. The proved program must
-//! be there: `rt check dmarc` makes it.
+//! be there: `./dmarc examples/01.txt` makes it.
 
 mod addresses;
 mod answers;

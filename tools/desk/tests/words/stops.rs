@@ -9,7 +9,8 @@ use crate::builds::until;
 use crate::house::House;
 
 const SIGNALS: [(&str, i32); 3] = [("TERM", 15), ("INT", 2), ("HUP", 1)];
-/// Starts one that sleeps, in a process of its own, and waits for it.
+/// Starts one that sleeps, in a process of its own, and waits for it. It runs in
+/// the house's own folder.
 const SLEEPS: &str = "(sleep 100 & echo $! > sleeper.new; mv sleeper.new sleeper; wait)\n";
 
 /// Whether a process runs; one that ended and is not yet taken note of does not.
@@ -55,7 +56,7 @@ fn stop(house: &House, script: &str, words: &[&str], (signal, number): (&str, i3
 #[test]
 fn the_prover() {
     let house = House::new().with_tools();
-    house.program("bin/rt", SLEEPS);
+    house.program("bin/rt", &format!("cd ../..\n{SLEEPS}"));
     house.program("bin/ar", "exit 1");
     for signal in SIGNALS {
         stop(&house, "dmarc", &["x.txt"], signal);
@@ -104,7 +105,7 @@ fn the_program_and_the_input() {
 #[test]
 fn a_script_that_waits() {
     let house = House::new().with_tools();
-    house.program("bin/rt", SLEEPS);
+    house.program("bin/rt", &format!("cd ../..\n{SLEEPS}"));
     let mut command = house.script("dmarc");
     command.arg("x.txt").stdin(Stdio::null());
     command.stdout(Stdio::null()).stderr(Stdio::null());
