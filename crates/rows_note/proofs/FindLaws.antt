@@ -9,7 +9,7 @@ use native.Mathlib.Omega.{arith}
 use mathlib.Core.Path.{◌≡◌, refl, sym, ◌∙◌, ap, subst}
 use mathlib.Core.Bool.{Bool, true, false}
 use mathlib.Core.List.{List, [], ◌∷◌}
-use lib.ListN.{length, get_or, take, drop, length-take, drop_of_length-le, replicate}
+use lib.ListN.{length, get_or, take, drop, length-take, drop_of_length-le}
 use borrow.Author.Tests.{lt-ltb, le-ltb}
 use Rattle.std.specs.Prelude.{if◌then◌else◌}
 use Rattle.rows.specs.declared.Seen.{Seen}
@@ -18,9 +18,9 @@ use Rattle.rows.specs.Rows.{is_free, is_match, on_list}
 use Rattle.rows_match.specs.code.Match.{next_free}
 use Rattle.rows_note.specs.code.Note.{place, row_for}
 
--- what stands where there is no row
+-- what stands where there is no row, as the goals of the functions have it
 abbrev pub no_row : Row
-no_row = record { seen = record { source = replicate 16 0; disposition = 0; dkim = 0; spf = 0; spare = 0; author = 0; set = 0 }; count = 0 }
+no_row = record { seen = record { source = []; disposition = 0; dkim = 0; spf = 0; spare = 0; author = 0; set = 0 }; count = 0 }
 
 pub get_d_take : (n : ℕ) (rs : List Row) (i : ℕ) (d : Row) → i < n → get_or (take n rs) i d ≡ get_or rs i d
 get_d_take zero rs i d l = absurd (not-suc-le-zero l)
@@ -116,13 +116,6 @@ module _ (rs : List Row) where
   so_far : (i : ℕ) → i ≤ n → FreeSoFar i
   so_far zero l = none_yet free_none (passed_none is_free rs)
   so_far (suc i) l = subst FreeSoFar (add-one i) (free_next i l (so_far i (omega arith)))
-
-  pub free_fits : (i : ℕ) → i ≤ n → free_among i ≤ n
-  free_fits i l = go (so_far i l)
-    where
-      go : FreeSoFar i → free_among i ≤ n
-      go (none_yet e p) = omega (arith, e)
-      go (has_one e h) = omega (arith, h)
 
   free_all : free_among n ≡ place is_free (on_list rs)
   free_all = go (so_far n (omega arith))

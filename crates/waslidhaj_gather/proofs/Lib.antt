@@ -1,4 +1,2 @@
--- What the walk over the rows that are gathered needs.
+-- What the proof about the rows that are gathered needs.
 pub mod TurnLaws
-pub mod GatherTypes
-pub mod Callees

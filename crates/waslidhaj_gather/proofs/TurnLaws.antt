@@ -9,8 +9,8 @@ use lib.Seq.{take-suc, take-take, take-length}
 use Rattle.rows.specs.declared.Row.{Row}
 use Rattle.rows.specs.Rows.{on_list}
 use Rattle.rows_gather.specs.declared.Gathered.{Gathered}
-use Rattle.rows_gather.specs.code.Gathered.{rows_in, no_rows, with_row}
-use Rattle.rows_gather.proofs.GatherLaws.{Sized, adds, adds_one, none_yet, none_counted}
+use Rattle.rows_gather.specs.code.Gathered.{rows_in, no_rows}
+use Rattle.rows_gather.proofs.GatherLaws.{none_yet, none_counted}
 
 module _ (ys : List Row) where
   pub record SoFar (i : ℕ) (g : Gathered) : Type 0 where
@@ -20,10 +20,11 @@ module _ (ys : List Row) where
   pub at_first : SoFar 0 no_rows
   at_first = record { rows = none_yet; count = none_counted }
 
-  pub one_more : (i : ℕ) (g : Gathered) (d : Row) → i < min 256 (length ys) → Sized (get_or ys i d) → length g.octets ≡ 8192 → SoFar i g → SoFar (i + 1) (with_row (get_or ys i d) g)
-  one_more i g d l z full s = record {
-    rows = adds (get_or ys i d) g z full below ∙ ap (λ (xs : List Row). xs ++ (get_or ys i d ∷ [])) s.rows ∙ sym (take-suc ys i d (omega arith)) ∙ ap (λ (m : ℕ). take m ys) (sym (add-one i));
-    count = adds_one (get_or ys i d) g below ∙ ap (λ (m : ℕ). m + 1) s.count;
+  pub one_more : (i : ℕ) (g after : Gathered) (d : Row) → i < min 256 (length ys) → (g.count < 256 → rows_in after ≡ rows_in g ++ (get_or ys i d ∷ [])) → (g.count < 256 → after.count ≡ g.count + 1)
+      → SoFar i g → SoFar (i + 1) after
+  one_more i g after d l more one s = record {
+    rows = more below ∙ ap (λ (xs : List Row). xs ++ (get_or ys i d ∷ [])) s.rows ∙ sym (take-suc ys i d (omega arith)) ∙ ap (λ (m : ℕ). take m ys) (sym (add-one i));
+    count = one below ∙ ap (λ (m : ℕ). m + 1) s.count;
   }
     where
       below : g.count < 256

@@ -1,6 +1,5 @@
-// For programs in other languages: a day's list of rows is cleared, and verdicts are entered. The last two are thin, and each is
-// proved by a walk of its MIR by hand: the borrow checker covers none that has a `&mut [Row]`. The texts and the rows lent to them
-// nowhere overlap: the C header's `waslidhaj_clear` and `waslidhaj_enter` see to it.
+// For programs in other languages: a day's list of rows is cleared, and verdicts are entered. The texts and the rows lent to the
+// last two nowhere overlap: the C header's `waslidhaj_clear` and `waslidhaj_enter` see to it.
 #![tactic(auto)]
 
 ghost use Rattle.std.specs.Prelude.{◌≡◌};

@@ -1,6 +1,5 @@
 -- `rows_gather::add` meets its contract.
 use native.Mathlib.Omega.{arith}
-use lib.ListN.{length-map}
 use Rattle.rows_gather.proofs.GatherLaws.{is_full, has_room}
 use Rattle.rows_gather.proofs.add.Goals as goal
 
@@ -8,9 +7,7 @@ pub returns-then-count-ge256 : goal.returns-then-count-ge256
 returns-then-count-ge256 c = is_full c.args.row c.args.g c.if-count-ge256.true
 
 pub put_row-requires : goal.put_row-requires
-put_row-requires c = omega (arith, simp length-map at c.well_formed.0.1.1.1.0.1.0.1, c.if-count-ge256.false)
+put_row-requires c = omega arith
 
 pub returns : goal.returns
-returns c =
-    has_room c.args.row c.args.g (simp length-map at c.well_formed.1.0.1.1.0.1.1.0.1.0.1)
-    (simp length-map at c.well_formed.0.1.1.1.0.1.0.1) c.if-count-ge256.false c.put_row.ensures
+returns c = has_room c.args.row c.args.g (omega arith) (omega arith) c.if-count-ge256.false c.put_row.ensures

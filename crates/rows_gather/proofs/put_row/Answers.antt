@@ -1,9 +1,9 @@
 -- `rows_gather::put_row` meets its contract.
-use lib.ListN.{length-map}
+use native.Mathlib.Omega.{arith}
 use Rattle.rows_gather.proofs.GatherLaws.{puts_row}
 use Rattle.rows_gather.proofs.put_row.Goals as goal
 
 pub returns : goal.returns
 returns c =
-    puts_row c.args.row c.args.out.now c.args.at (simp length-map at c.well_formed.0.1.1.0.1.1.0.1.0.1) c.requires
+    puts_row c.args.row c.args.out.now c.args.at (omega arith) c.requires
     c.append-flags.ensures c.append-author.ensures c.put_number-set.ensures c.put_number-count.ensures c.put_number.ensures
