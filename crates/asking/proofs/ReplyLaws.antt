@@ -1,8 +1,8 @@
 -- Laws of accepted answers that are read.
 use mathlib.Core.Path.{◌≡◌, refl, ap, sym, ◌∙◌}
-use mathlib.Core.List.{List, [], ◌∷◌, ◌++◌, map-append}
+use mathlib.Core.List.{[], ◌∷◌, ◌++◌, map-append}
 use mathlib.Core.Bool.{true, false}
-use mathlib.Core.Option.{Option, none as nothing, some as just, map}
+use mathlib.Core.Option.{some as just, map}
 use Prim.Native.Nat.{suc}
 use lib.ListN.{length}
 use Rattle.std.specs.Prelude.{if◌then◌else◌}

@@ -1,15 +1,15 @@
 -- The proofs of what is claimed of every reading program.
 use mathlib.Core.Path.{◌≡◌, refl, sym, ap, ◌∙◌, subst}
-use mathlib.Core.List.{List, [], ◌∷◌, ◌++◌, flatten, append-nil, cons≢nil, head-eq_of_cons-eq, tail-eq_of_cons-eq}
-use mathlib.Core.Logic.{◌⊎◌, inl, inr}
+use mathlib.Core.List.{List, [], ◌∷◌, ◌++◌, flatten, cons≢nil, head-eq_of_cons-eq, tail-eq_of_cons-eq}
+use mathlib.Core.Logic.{inl, inr}
 use mathlib.Core.Option.{Option, none as nothing, some as just, none-ne-some}
-use Prim.Native.Nat.{ℕ, zero, suc, ◌+◌, ◌<◌, ◌≤◌}
+use Prim.Native.Nat.{ℕ, suc, ◌+◌, ◌<◌}
 use native.Mathlib.Omega.{arith}
 use lib.ListN.{length, take}
 use Rattle.octets.specs.Octets.{Octets}
-use Rattle.octets.specs.Refusing.{OrRefused, ok, not_ok, refusal}
+use Rattle.octets.specs.Refusing.{ok, not_ok, refusal}
 use Rattle.octets.specs.declared.Refusal.{Refusal}
-use Rattle.parsing.specs.Reads.{Reads, done, give, next, Left, open_at, stuck, Reader, Fed, handing, stands, run, feed, feed_all, ended, closed}
+use Rattle.parsing.specs.Reads.{Reads, done, give, next, Left, open_at, stuck, Reader, handing, run, feed, feed_all, ended, closed}
 use Rattle.parsing.specs.Claims.{new, Parts}
 use Rattle.parsing.specs.code.Whole.{Whole, Begun, Live, Reading}
 use Rattle.parsing.proofs.RefusingLaws.{ok≢not-ok, ok_injective, refused_injective}

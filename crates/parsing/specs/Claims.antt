@@ -4,7 +4,7 @@ use mathlib.Core.List.{List, [], ◌∷◌, ◌++◌, flatten}
 use Rattle.octets.specs.Octets.{Octets}
 use Rattle.octets.specs.Refusing.{not_ok}
 use Rattle.octets.specs.declared.Refusal.{Refusal}
-use Rattle.parsing.specs.Reads.{Reads, Reader, open_at, stuck, Fed, feed, feed_all, ended, closed}
+use Rattle.parsing.specs.Reads.{Reads, Reader, open_at, stuck, feed, feed_all, ended, closed}
 
 abbrev pub new : {R A : Type 0} → Reads R A → Reader R A
 new t = record { taken = 0; left = open_at t }

@@ -1,5 +1,5 @@
 -- Programs that read a text octet by octet and hand out rows on the way; a text read whole, and in parts.
-use Rattle.std.specs.Prelude.{◌≡◌, List, [], ◌∷◌, ◌++◌, Bool, true, false, ℕ, suc, ◌+◌, eqb, length, if◌then◌else◌}
+use Rattle.std.specs.Prelude.{List, [], ◌∷◌, ◌++◌, Bool, ℕ, suc, eqb, if◌then◌else◌}
 use Rattle.std.proofs.Math.Option.{Option, none as nothing, some as just}
 use Rattle.octets.specs.Octets.{Octets}
 use Rattle.octets.specs.Refusing.{OrRefused, ok, not_ok, refusal}

@@ -19,7 +19,7 @@ use Rattle.rows.specs.Rows.{Listing, is_free, on_list}
 use Rattle.rows.specs.History.{count_if, total}
 use Rattle.report.specs.Report.{Reporter, row_element, counted_rows, report}
 use Rattle.report.specs.Claims.{OfTheList, OfCountedRows, typed_row, Longest}
-use Rattle.report.proofs.SizeLaws.{both_hold, all_parts, address_size, row_size, report_size}
+use Rattle.report.proofs.SizeLaws.{both_hold, address_size, row_size, report_size}
 
 pub of_the_list : (l : Listing) (lists : Lists) (by : Reporter) (s : Settings) → OfTheList l lists by s
 unfolding report on_list

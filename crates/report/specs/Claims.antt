@@ -1,5 +1,5 @@
 -- What is claimed of aggregate reports (document 02, Ask 9).
-use Rattle.std.specs.Prelude.{◌≡◌, List, ◌++◌, Bool, true, ◌&&◌, not, ℕ, ◌^◌, ◌≤◌, ◌<◌, eqb, ltb, length}
+use Rattle.std.specs.Prelude.{◌≡◌, List, ◌++◌, Bool, true, ◌&&◌, not, ◌^◌, ◌≤◌, ◌<◌, eqb, ltb, length}
 use Rattle.octets.specs.Octets.{Octets, all}
 use Rattle.octets.specs.Refusing.{ok}
 use Rattle.policy.specs.declared.Settings.{Settings}

@@ -1,15 +1,14 @@
 -- What the tests of an open address mean for the program that is left.
-use mathlib.Core.Path.{◌≡◌, refl, sym, ap, ◌∙◌}
-use mathlib.Core.List.{List, [], ◌∷◌, ◌++◌}
-use mathlib.Core.Bool.{Bool, true, false, ◌||◌}
-use Prim.Native.Nat.{ℕ, zero, suc, ◌+◌, ◌-◌, ◌≤◌, ◌<◌}
+use mathlib.Core.Path.{◌≡◌, refl, ap, ◌∙◌}
+use mathlib.Core.List.{[], ◌∷◌, ◌++◌}
+use mathlib.Core.Bool.{true, false, ◌||◌}
+use Prim.Native.Nat.{ℕ, zero, suc, ◌-◌, ◌≤◌, ◌<◌}
 use native.Mathlib.Omega.{arith}
-use lib.Dec.{eqb}
 use lib.ListN.{length, length-append}
 use borrow.Author.Tests.{eq-eqb, ne_eqb}
 use Rattle.octets.specs.Octets.{Octets}
-use Rattle.parsing.specs.Reads.{Reads, done, octet_where}
-use Rattle.parsing_steps.specs.Stepping.{Step, on, refused, step_of}
+use Rattle.parsing.specs.Reads.{Reads, done}
+use Rattle.parsing_steps.specs.Stepping.{on, refused, step_of}
 use Rattle.parsing_steps.proofs.StepLaws.{where_no, where_yes}
 use Rattle.report_form.specs.ReportForm.{Said}
 use Rattle.report_form.specs.code.ReportReading.{Address, dotted, grouped, goes_on_dotted, goes_on_grouped, ends_number, with_digit, next_number, source_of, digits_from, address_from}

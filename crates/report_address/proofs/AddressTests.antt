@@ -1,15 +1,14 @@
 -- Laws of the tests of an open address.
-use mathlib.Core.Path.{◌≡◌, refl, sym, ap, ◌∙◌}
+use mathlib.Core.Path.{◌≡◌, refl, ap, ◌∙◌}
 use mathlib.Core.List.{List, [], ◌∷◌}
 use mathlib.Core.Bool.{Bool, true, false, ◌&&◌, ◌||◌, not, false≢true}
 use Prim.Native.Nat.{ℕ, zero, suc, ◌+◌, ◌-◌, ◌*◌, ◌≤◌, ◌<◌}
 use native.Mathlib.Omega.{arith}
 use lib.Dec.{eqb, leb, ltb}
 use lib.ListN.{length}
-use borrow.Author.Tests.{lt-ltb, le-ltb, le-leb, lt-leb, eq-eqb, ne_eqb, leb-true}
-use Rattle.std.specs.Prelude.{if◌then◌else◌}
+use borrow.Author.Tests.{lt-ltb, lt-leb, ne_eqb, leb-true}
 use Rattle.octets.specs.Octets.{same, is_digit, between}
-use Rattle.report_form.specs.code.ReportReading.{can_be_dotted, can_be_grouped, Address, digit_value, lower_hex as hex_digit, only_zero, goes_on_dotted, goes_on_grouped, last_number, is_last, ends_number}
+use Rattle.report_form.specs.code.ReportReading.{can_be_dotted, can_be_grouped, digit_value, lower_hex as hex_digit, only_zero, goes_on_dotted, goes_on_grouped, last_number, is_last, ends_number}
 use Rattle.report_address.specs.code.Addresses.{kind_of, address_of, only_zero_in, dotted_on, grouped_on, ends_in}
 
 -- the tests are the program's

@@ -1,29 +1,25 @@
 -- An address that is read is one that Ask 9 writes.
 use mathlib.Core.Path.{◌≡◌, refl, sym, ap, ◌∙◌, subst}
-use mathlib.Core.List.{List, [], ◌∷◌, ◌++◌, map, flatten, append_assoc, append-nil, cons≢nil}
+use mathlib.Core.List.{List, [], ◌∷◌, ◌++◌, append_assoc, append-nil}
 use mathlib.Core.Logic.{◌⊎◌, inl, inr}
-use mathlib.Core.Bool.{Bool, true, false, ◌&&◌, ◌||◌, not, false≢true, true≢false}
-use Prim.Native.Nat.{ℕ, zero, suc, ◌+◌, ◌-◌, ◌*◌, ◌/◌, ◌%◌, ◌≤◌, ◌<◌}
+use mathlib.Core.Bool.{Bool, true, false, ◌||◌, false≢true}
+use Prim.Native.Nat.{ℕ, zero, suc, ◌+◌, ◌*◌, ◌/◌, ◌%◌, ◌≤◌, ◌<◌}
 use native.Mathlib.Omega.{arith}
-use lib.Dec.{eqb, leb, ltb}
+use lib.Dec.{eqb}
 use lib.ListN.{length, length-append}
-use borrow.Author.Tests.{eq-eqb, eqb-true, eqb-false, ne_eqb, ltb-true, ltb-false}
-use Rattle.std.specs.Prelude.{if◌then◌else◌}
-use Rattle.octets.specs.Octets.{Octets, octets, same, is_digit}
+use borrow.Author.Tests.{eqb-true}
+use Rattle.octets.specs.Octets.{Octets, same}
 use Rattle.octets.specs.Decimal.{decimal}
 use Rattle.octets.proofs.DecimalLaws.{decimal_one, decimal_more}
-use Rattle.report.specs.Xml.{after_mark}
 use Rattle.report.specs.Xml.{hex_octet, hex_digits}
 use Rattle.parsing.specs.Reads.{Reads, done}
 use Rattle.parsing.specs.code.Whole.{Whole}
-use Rattle.report_form.specs.ReportForm.{Said, mapped, group_octets}
-use Rattle.report_form.specs.code.ReportReading.{Kind, either, dotted, grouped, can_be_dotted, can_be_grouped, Address, digit_value, lower_hex as hex_digit, only_zero, goes_on_dotted, goes_on_grouped, is_last, last_number, ends_number, with_digit, next_number, source_of, digits_from, address_from}
+use Rattle.report_form.specs.ReportForm.{Said}
+use Rattle.report_form.specs.code.ReportReading.{Kind, either, dotted, grouped, can_be_dotted, can_be_grouped, Address, digit_value, lower_hex as hex_digit, only_zero, goes_on_dotted, goes_on_grouped, ends_number, with_digit, next_number, source_of, digits_from}
 use Rattle.report_form.proofs.WholeLaws.{octet_whole}
 use Rattle.report_form.proofs.Telling.{done_whole}
-use Rattle.report_form.proofs.TextBack.{both_true}
-use Rattle.report_form.proofs.AddressLaws.{five, free, dotted_on, grouped_on, some_digit, hex_back, digit_back, digit_hex, mark_60}
+use Rattle.report_form.proofs.AddressLaws.{free, dotted_on, grouped_on, some_digit, hex_back, digit_back, digit_hex, mark_60}
 use Rattle.report_form.proofs.AddressInto.{Zeros, zeros_more, zeros_sixteen, cap, with_before, with_digits, with_ten, with_sixteen, hex_one, hex_more}
-use Rattle.report_form.proofs.AddressChain.{follows, address_suc, address_zero, source_dotted, source_grouped, next_kind, next_before, AllSmall, dotted_text, dotted_more, AllWords, Unmapped, grouped_text, grouped_more, cap_4}
 
 -- ------------------------------------------------------------------ what is known of an open number
 

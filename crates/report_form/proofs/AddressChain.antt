@@ -1,26 +1,24 @@
 -- Numbers one after another: addresses as Ask 9 writes them are read whole.
 use mathlib.Core.Path.{◌≡◌, refl, sym, ap, ◌∙◌, subst}
-use mathlib.Core.List.{List, [], ◌∷◌, ◌++◌, map, flatten, append_assoc, append-nil}
-use mathlib.Core.Logic.{◌⊎◌, inl, inr}
-use mathlib.Core.Bool.{Bool, true, false, ◌&&◌, ◌||◌, not, false≢true, true≢false}
-use Prim.Native.Nat.{ℕ, zero, suc, ◌+◌, ◌-◌, ◌*◌, ◌/◌, ◌%◌, ◌≤◌, ◌<◌}
+use mathlib.Core.List.{List, [], ◌∷◌, ◌++◌, map, flatten, append_assoc}
+use mathlib.Core.Bool.{Bool, true, false}
+use Prim.Native.Nat.{ℕ, zero, suc, ◌+◌, ◌-◌, ◌/◌, ◌%◌, ◌≤◌, ◌<◌}
 use native.Mathlib.Omega.{arith}
-use lib.Dec.{eqb, leb, ltb}
+use lib.Dec.{eqb, ltb}
 use lib.ListN.{length, length-append}
 use borrow.Author.Tests.{eq-eqb, ltb-true, ltb-false}
-use Rattle.std.specs.Prelude.{if◌then◌else◌}
 use Rattle.octets.specs.Octets.{Octets, octets}
 use Rattle.octets.specs.Decimal.{decimal}
 use Rattle.octets.proofs.DecimalLaws.{length_one, length_more}
-use Rattle.report.specs.Xml.{after_mark, parted}
+use Rattle.report.specs.Xml.{after_mark}
 use Rattle.report.specs.Xml.{hex_octet, hex_digits}
 use Rattle.parsing.specs.Reads.{Reads, done}
 use Rattle.parsing.specs.code.Whole.{Whole}
 use Rattle.report_form.specs.ReportForm.{Said, mapped, group_octets}
-use Rattle.report_form.specs.code.ReportReading.{Kind, either, dotted, grouped, can_be_dotted, can_be_grouped, Address, is_last, last_number, ends_number, next_number, source_of, digits_from, address_from}
+use Rattle.report_form.specs.code.ReportReading.{Kind, dotted, grouped, can_be_dotted, can_be_grouped, Address, is_last, last_number, ends_number, next_number, source_of, digits_from, address_from}
 use Rattle.report_form.proofs.LiveLaws.{end_colon, end_dot, end_whole}
 use Rattle.report_form.proofs.AddressLaws.{free, end_mark, end_part}
-use Rattle.report_form.proofs.AddressInto.{Fresh, fresh_next, Over, AtTen, read_ten, AtHex, read_hex, cap}
+use Rattle.report_form.proofs.AddressInto.{fresh_next, Over, AtTen, read_ten, AtHex, read_hex, cap}
 
 -- what a `.` or `:` leads to
 unfoldable pub follows : ℕ → Address → ℕ → Reads Said Octets

@@ -1,24 +1,24 @@
 -- Addresses as Ask 9 writes them are read.
 use mathlib.Core.Path.{◌≡◌, refl, sym, ap, ◌∙◌, subst}
-use mathlib.Core.List.{List, [], ◌∷◌, ◌++◌, map, flatten, append_assoc, append-nil}
+use mathlib.Core.List.{List, [], ◌∷◌, ◌++◌, append_assoc}
 use mathlib.Core.Logic.{◌⊎◌, inl, inr}
-use mathlib.Core.Bool.{Bool, true, false, ◌&&◌, ◌||◌, not, false≢true, true≢false}
-use Prim.Native.Nat.{ℕ, zero, suc, ◌+◌, ◌-◌, ◌*◌, ◌/◌, ◌%◌, ◌≤◌, ◌<◌}
+use mathlib.Core.Bool.{Bool, true, false, not}
+use Prim.Native.Nat.{ℕ, zero, suc, ◌+◌, ◌*◌, ◌/◌, ◌%◌, ◌≤◌, ◌<◌}
 use native.Mathlib.Omega.{arith}
-use lib.Dec.{eqb, leb, ltb}
+use lib.Dec.{ltb}
 use lib.ListN.{length, length-append}
-use borrow.Author.Tests.{eq-eqb, eqb-true, eqb-false, ne_eqb, ltb-true, ltb-false, lt-ltb, le-ltb, leb-true, le-leb}
+use borrow.Author.Tests.{ne_eqb, ltb-true, ltb-false, lt-ltb, le-ltb}
 use Rattle.std.specs.Prelude.{if◌then◌else◌}
-use Rattle.octets.specs.Octets.{Octets, octets, same, between, is_digit}
+use Rattle.octets.specs.Octets.{Octets, same}
 use Rattle.octets.specs.Decimal.{decimal}
-use Rattle.octets.proofs.DecimalLaws.{decimal_one, decimal_more, length_one, length_more}
+use Rattle.octets.proofs.DecimalLaws.{decimal_one, decimal_more}
 use Rattle.report.specs.Xml.{hex_octet, hex_digits}
-use Rattle.parsing.specs.Reads.{Reads, done}
+use Rattle.parsing.specs.Reads.{Reads}
 use Rattle.parsing.specs.code.Whole.{Whole}
-use Rattle.report_form.specs.ReportForm.{Said, mapped, group_octets}
-use Rattle.report_form.specs.code.ReportReading.{Kind, either, dotted, grouped, can_be_dotted, can_be_grouped, Address, digit_value, lower_hex as hex_digit, only_zero, goes_on_dotted, goes_on_grouped, is_last, last_number, ends_number, with_digit, next_number, source_of, digits_from, address_from, reading_address as address}
-use Rattle.report_form.proofs.TextBack.{both_true, not_false, and_off}
-use Rattle.report_form.proofs.AddressLaws.{five, free, on_dotted, on_grouped, no_digit_yet, not_only_zero, hex_into, digit_of, digit_hex, digit_on, end_mark, end_part}
+use Rattle.report_form.specs.ReportForm.{Said}
+use Rattle.report_form.specs.code.ReportReading.{Kind, grouped, can_be_dotted, can_be_grouped, Address, digit_value, lower_hex as hex_digit, only_zero, goes_on_dotted, goes_on_grouped, with_digit, next_number, digits_from}
+use Rattle.report_form.proofs.TextBack.{and_off}
+use Rattle.report_form.proofs.AddressLaws.{five, free, on_dotted, on_grouped, no_digit_yet, not_only_zero, hex_into, digit_of, digit_hex, digit_on}
 
 -- ten and sixteen are 0 together
 unfoldable pub Zeros : Address → Type 0

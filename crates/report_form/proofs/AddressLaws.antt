@@ -1,24 +1,20 @@
 -- Addresses, digit by digit: what a digit or a mark does to an open one.
-use mathlib.Core.Path.{◌≡◌, refl, sym, ap, ◌∙◌, subst}
-use mathlib.Core.List.{List, [], ◌∷◌, ◌++◌, map, append_assoc, append-nil}
+use mathlib.Core.Path.{◌≡◌, refl, sym, ap, ◌∙◌}
+use mathlib.Core.List.{List, [], ◌∷◌}
 use mathlib.Core.Logic.{◌⊎◌, inl, inr}
 use mathlib.Core.Bool.{Bool, true, false, ◌&&◌, ◌||◌, not, false≢true, true≢false}
-use Prim.Native.Nat.{ℕ, zero, suc, ◌+◌, ◌-◌, ◌*◌, ◌/◌, ◌%◌, ◌≤◌, ◌<◌}
+use Prim.Native.Nat.{ℕ, zero, suc, ◌+◌, ◌*◌, ◌≤◌, ◌<◌}
 use native.Mathlib.Omega.{arith}
 use lib.Dec.{eqb, leb, ltb}
-use lib.ListN.{length, length-append, get_or}
-use borrow.Author.Tests.{eq-eqb, eqb-true, eqb-false, ne_eqb, ltb-true, ltb-false, lt-ltb, le-ltb, leb-true, le-leb}
-use Rattle.std.specs.Prelude.{if◌then◌else◌}
+use borrow.Author.Tests.{eq-eqb, eqb-true, eqb-false, ne_eqb, ltb-true, ltb-false, lt-ltb, leb-true, le-leb}
 use Rattle.octets.specs.Octets.{Octets, octets, same, between, is_digit}
-use Rattle.octets.specs.Decimal.{decimal}
-use Rattle.octets.proofs.DecimalLaws.{decimal_one, decimal_more, length_one, length_more}
-use Rattle.report.specs.Xml.{hex_octet, hex_digits}
-use Rattle.parsing.specs.Reads.{Reads, done}
+use Rattle.report.specs.Xml.{hex_octet}
+use Rattle.parsing.specs.Reads.{Reads}
 use Rattle.parsing.specs.code.Whole.{Whole}
-use Rattle.report_form.specs.ReportForm.{Said, mapped, group_octets}
-use Rattle.report_form.specs.code.ReportReading.{Kind, either, dotted, grouped, can_be_dotted, can_be_grouped, Address, digit_value, lower_hex as hex_digit, only_zero, goes_on_dotted, goes_on_grouped, is_last, last_number, ends_number, with_digit, next_number, source_of, digits_from}
-use Rattle.report_form.proofs.WholeLaws.{whole_octet, octet_whole}
-use Rattle.report_form.proofs.Telling.{whole_done, done_whole}
+use Rattle.report_form.specs.ReportForm.{Said}
+use Rattle.report_form.specs.code.ReportReading.{can_be_dotted, can_be_grouped, Address, digit_value, lower_hex as hex_digit, only_zero, goes_on_dotted, goes_on_grouped, ends_number, with_digit, source_of, digits_from}
+use Rattle.report_form.proofs.WholeLaws.{whole_octet}
+use Rattle.report_form.proofs.Telling.{whole_done}
 use Rattle.report_form.proofs.TextBack.{both_true, not_false, and_off}
 use Rattle.report_form.proofs.NumberBack.{digit_range}
 

@@ -1,30 +1,26 @@
 -- Addresses: what is read whole is what Ask 9 writes, both ways.
 use mathlib.Core.Path.{◌≡◌, refl, sym, ap, ◌∙◌, subst}
-use mathlib.Core.List.{List, [], ◌∷◌, ◌++◌, map, flatten, append_assoc, append-nil, cons≢nil, head-eq_of_cons-eq, tail-eq_of_cons-eq}
+use mathlib.Core.List.{List, [], ◌∷◌, ◌++◌, flatten, append_assoc}
 use mathlib.Core.Logic.{◌⊎◌, inl, inr}
-use mathlib.Core.Bool.{Bool, true, false, ◌&&◌, ◌||◌, not, false≢true, true≢false}
+use mathlib.Core.Bool.{Bool, true, false, ◌&&◌, ◌||◌, false≢true}
 use Prim.Native.Nat.{ℕ, zero, suc, ◌+◌, ◌-◌, ◌*◌, ◌/◌, ◌%◌, ◌≤◌, ◌<◌}
 use native.Mathlib.Omega.{arith}
-use lib.Dec.{eqb, leb, ltb}
-use lib.ListN.{length, length-append, take, drop, get_or}
-use borrow.Author.Tests.{eq-eqb, eqb-true, ltb-true, ltb-false, leb-true, le-leb}
-use Rattle.std.specs.Prelude.{if◌then◌else◌}
-use Rattle.octets.specs.Octets.{Octets, octets, same, all, between}
-use Rattle.octets.proofs.TextLaws.{same_true, same_self}
+use lib.Dec.{eqb, ltb}
+use lib.ListN.{length, length-append}
+use borrow.Author.Tests.{eq-eqb, eqb-true, ltb-true, ltb-false}
+use Rattle.octets.specs.Octets.{Octets}
 use Rattle.octets.specs.Decimal.{decimal}
-use Rattle.report.specs.Xml.{after_mark, parted}
-use Rattle.report.specs.Xml
-use Rattle.report.specs.Xml.{hex_octet, hex_digits, groups, is_mapped}
+use Rattle.report.specs.Xml.{after_mark}
+use Rattle.report.specs.Xml.{hex_octet, hex_digits}
 use Rattle.parsing.specs.Reads.{Reads, done}
 use Rattle.parsing.specs.code.Whole.{Whole}
 use Rattle.report_form.specs.ReportForm.{Said, mapped, group_octets}
-use Rattle.report_form.specs.code.ReportReading.{Kind, either, dotted, grouped, can_be_dotted, can_be_grouped, Address, is_last, last_number, ends_number, next_number, source_of, digits_from, address_from, reading_address as address}
-use Rattle.report_form.proofs.Telling.{Tells, done_whole}
-use Rattle.report_form.proofs.TextBack.{both_true, not_false}
-use Rattle.report_form.proofs.AddressLaws.{five, free}
+use Rattle.report_form.specs.code.ReportReading.{Kind, either, dotted, grouped, can_be_dotted, can_be_grouped, Address, is_last, last_number, ends_number, next_number, source_of, address_from}
+use Rattle.report_form.proofs.TextBack.{both_true}
+use Rattle.report_form.proofs.AddressLaws.{free}
 use Rattle.report_form.proofs.AddressInto.{cap, hex_one, hex_more}
-use Rattle.report_form.proofs.AddressChain.{follows, address_suc, address_zero, source_dotted, source_grouped, next_kind, next_before, AllSmall, dotted_text, dotted_more, dotted_whole, AllWords, Unmapped, grouped_text, grouped_more, grouped_whole, cap_4}
-use Rattle.report_form.proofs.AddressBack.{Inv, inv_next, Turned, Stop, digits_back}
+use Rattle.report_form.proofs.AddressChain.{follows, address_suc, address_zero, source_dotted, source_grouped, next_kind, next_before, AllSmall, dotted_text, dotted_more, AllWords, Unmapped, grouped_text, grouped_more, cap_4}
+use Rattle.report_form.proofs.AddressBack.{inv_next, Stop, digits_back}
 
 -- ------------------------------------------------------------------ a group with room for four digits
 

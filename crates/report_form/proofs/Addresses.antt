@@ -1,29 +1,27 @@
 -- The sixteen octets of an address, and its text.
 use mathlib.Core.Path.{◌≡◌, refl, sym, ap, ◌∙◌, subst}
-use mathlib.Core.List.{List, [], ◌∷◌, ◌++◌, map, flatten, append_assoc}
-use mathlib.Core.Logic.{◌⊎◌, inl, inr}
-use mathlib.Core.Bool.{Bool, true, false, ◌&&◌, ◌||◌, not, false≢true, true≢false}
-use Prim.Native.Nat.{ℕ, zero, suc, ◌+◌, ◌-◌, ◌*◌, ◌/◌, ◌%◌, ◌≤◌, ◌<◌}
+use mathlib.Core.List.{List, [], ◌∷◌, ◌++◌, map, append_assoc}
+use mathlib.Core.Logic.{inl, inr}
+use mathlib.Core.Bool.{Bool, true, false, ◌&&◌, not, false≢true, true≢false}
+use Prim.Native.Nat.{ℕ, suc, ◌+◌, ◌*◌, ◌/◌, ◌%◌, ◌≤◌, ◌<◌}
 use native.Mathlib.Omega.{arith}
-use lib.Dec.{eqb, leb, ltb}
-use lib.ListN.{length, take, drop, get_or}
+use lib.Dec.{eqb, leb}
+use lib.ListN.{length, get_or}
 use borrow.Author.Tests.{eq-eqb, eqb-true, leb-true, le-leb}
-use Rattle.std.specs.Prelude.{if◌then◌else◌}
 use Rattle.octets.specs.Octets.{Octets, octets, same, all, between}
 use Rattle.octets.proofs.TextLaws.{same_true, same_uneven}
 use Rattle.octets.specs.Decimal.{decimal}
 use Rattle.report.specs.Xml.{after_mark, parted}
 use Rattle.report.specs.Xml
 use Rattle.report.specs.Xml.{hex_digits, groups, is_mapped}
-use Rattle.parsing.specs.Reads.{Reads}
 use Rattle.parsing.specs.code.Whole.{Whole}
 use Rattle.report_form.specs.ReportForm.{Said, mapped, group_octets}
-use Rattle.report_form.specs.code.ReportReading.{either, dotted, grouped, can_be_dotted, can_be_grouped, next_number, address_from, reading_address as address}
+use Rattle.report_form.specs.code.ReportReading.{either, can_be_dotted, can_be_grouped, next_number, address_from, reading_address as address}
 use Rattle.report_form.proofs.Telling.{Tells}
-use Rattle.report_form.proofs.TextBack.{both_true, not_false}
+use Rattle.report_form.proofs.TextBack.{both_true}
 use Rattle.report_form.proofs.AddressLaws.{five, free}
 use Rattle.report_form.proofs.AddressChain.{AllSmall, dotted_text, dotted_whole, AllWords, Unmapped, grouped_text, grouped_whole}
-use Rattle.report_form.proofs.AddressTold.{DottedEnd, GroupedEnd, End, address_back}
+use Rattle.report_form.proofs.AddressTold.{End, address_back}
 
 -- ------------------------------------------------------------------ lists of so many numbers
 

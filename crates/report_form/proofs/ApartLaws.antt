@@ -1,6 +1,6 @@
 -- The reader is the form with one refusal more: an end below begin, at the `<` after it.
 use mathlib.Core.Path.{◌≡◌, refl, sym, ap, ◌∙◌, subst}
-use mathlib.Core.List.{List, [], ◌∷◌, ◌++◌}
+use mathlib.Core.List.{[], ◌∷◌}
 use mathlib.Core.Logic.{◌⊎◌, inl, inr}
 use mathlib.Core.Bool.{Bool, true, false, ◌&&◌}
 use mathlib.Core.Option.{Option, none as nothing, some as just, none-ne-some, some-injective}
@@ -11,10 +11,9 @@ use lib.ListN.{length, take, get_or}
 use borrow.Author.Tests.{eqb-true}
 use Rattle.std.specs.Prelude.{if◌then◌else◌}
 use Rattle.octets.specs.Octets.{Octets}
-use Rattle.octets.specs.Refusing.{refusal}
 use Rattle.octets.specs.declared.Refusal.{Refusal}
-use Rattle.parsing.specs.Reads.{Reads, done, give, next, ◌>>=◌, ◌>>◌, Left, open_at, stuck, run, handing}
-use Rattle.parsing.specs.code.Whole.{Whole, Begun, Live}
+use Rattle.parsing.specs.Reads.{Reads, done, give, next, ◌>>=◌, ◌>>◌, stuck, run, handing}
+use Rattle.parsing.specs.code.Whole.{Begun, Live}
 use Rattle.report_form.specs.ReportForm.{widths, Said}
 use Rattle.report_form.specs.code.ReportReading.{number_refused, digit_refused, digits_more as number_from, reading_number as number, report_by, apart, reading_report as report}
 use Rattle.parsing.proofs.ReadsLaws.{run_on, run_stuck}

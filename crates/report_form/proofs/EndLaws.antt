@@ -2,7 +2,7 @@
 use mathlib.Core.Path.{◌≡◌, refl, sym, ap, ◌∙◌, subst}
 use mathlib.Core.List.{List, [], ◌∷◌, ◌++◌, append_assoc, append-nil}
 use mathlib.Core.Logic.{◌⊎◌, inl, inr}
-use mathlib.Core.Bool.{Bool, true, false, ◌&&◌, true≢false, false≢true}
+use mathlib.Core.Bool.{Bool, true, false, ◌&&◌, true≢false}
 use mathlib.Core.Option.{Option, none as nothing, some as just, none-ne-some, some-injective}
 use Prim.Native.Nat.{ℕ, zero, suc, ◌+◌, ◌-◌, ◌*◌, ◌^◌, ◌/◌, ◌%◌, ◌<◌, ◌≤◌}
 use native.Mathlib.Omega.{arith}
@@ -13,9 +13,8 @@ use Rattle.std.specs.Prelude.{if◌then◌else◌}
 use Rattle.octets.specs.Octets.{Octets, octets}
 use Rattle.octets.specs.Decimal.{decimal}
 use Rattle.octets.proofs.DecimalLaws.{decimal_one, decimal_more}
-use Rattle.octets.specs.Refusing.{refusal}
 use Rattle.octets.specs.declared.Refusal.{Refusal}
-use Rattle.parsing.specs.Reads.{Reads, done, give, next, ◌>>=◌, ◌>>◌, exactly, Left, open_at, stuck, run, handing}
+use Rattle.parsing.specs.Reads.{Reads, done, give, next, ◌>>=◌, ◌>>◌, exactly, stuck, run, handing}
 use Rattle.parsing.specs.code.Whole.{Whole, Begun, Live}
 use Rattle.report_form.specs.ReportForm.{widths, Said}
 use Rattle.report_form.specs.code.ReportReading.{reading_literal as literal, number_refused, digits_more as number_from, reading_number as number, report_by, apart, reading_report as report}
@@ -25,7 +24,7 @@ use Rattle.report_form.proofs.LiveLaws.{live_apart}
 use Rattle.report_form.proofs.ApartLaws.{at_end, not_at_end}
 use Rattle.report_form.proofs.WholeLaws.{exactly_whole}
 use Rattle.report_form.proofs.NumberBack.{taken_digit, number_told}
-use Rattle.report.proofs.Regrouping.{Tree, leaf, ◌·◌, whole, along, regroup, lit}
+use Rattle.report.proofs.Regrouping.{leaf, ◌·◌, whole, along, regroup, lit}
 
 -- an end below begin, just read
 pub record Below (pre : Octets) : Type 0 where

@@ -2,29 +2,29 @@
 use mathlib.Core.Path.{◌≡◌, refl, sym, ap, ◌∙◌, subst}
 use mathlib.Core.List.{List, [], ◌∷◌, ◌++◌, map}
 use mathlib.Core.Logic.{◌⊎◌, inl, inr}
-use mathlib.Core.Bool.{Bool, true, false, false≢true}
-use Prim.Native.Nat.{ℕ, suc, ◌+◌, ◌≤◌, ◌<◌}
+use mathlib.Core.Bool.{Bool, true, false≢true}
+use Prim.Native.Nat.{ℕ, suc, ◌≤◌}
 use native.Mathlib.Omega.{arith}
 use lib.Dec.{leb}
 use lib.ListN.{length, take}
 use borrow.Author.Tests.{leb-true, le-leb}
-use Rattle.octets.specs.Octets.{Octets, is_empty, all}
-use Rattle.octets.specs.Refusing.{OrRefused, ok, not_ok, refusal}
+use Rattle.octets.specs.Octets.{Octets, is_empty}
+use Rattle.octets.specs.Refusing.{ok, not_ok, refusal}
 use Rattle.octets.specs.declared.Refusal.{Refusal}
 use Rattle.report.specs.Report.{Line}
 use Rattle.parsing.specs.Reads.{Reads, done, give, next, open_at, stuck, Reader, run, feed, ended}
 use Rattle.parsing.specs.code.Whole.{Whole, Begun}
-use Rattle.report_form.specs.ReportForm.{Widths, widths, Said, said, good_entry, Writing, text_of, good, Form, Begins}
+use Rattle.report_form.specs.ReportForm.{Widths, widths, Said, said, Writing, text_of, good, Form, Begins}
 use Rattle.report_form.specs.code.ReportReading.{report_by, apart, reading_report as report, new_reader, read_report}
 use Rattle.report_form.specs.ReportClaims.{EndBelow}
 use Rattle.parsing.proofs.ReadsClaimed.{reading, End, at_done, at_stuck, at_open, end_of, ended_done, live_open, run_whole}
 use Rattle.parsing.proofs.RefusingLaws.{ok≢not-ok, refused_injective}
 use Rattle.report_form.proofs.LiveLaws.{live_apart}
-use Rattle.report_form.proofs.ApartLaws.{Stricter, stricter_report, report_place}
-use Rattle.report_form.proofs.NumbersLaws.{Sane, sane_report, stuck_number, open_injective, strict_open}
-use Rattle.report_form.proofs.EndLaws.{Below, end_place}
-use Rattle.report_form.proofs.RowTold.{Told, GoodTold, told_said, AllTold}
-use Rattle.report_form.proofs.ReportTold.{Head, GoodHead, report_piece, ReadReport, report_into, report_back}
+use Rattle.report_form.proofs.ApartLaws.{Stricter, stricter_report}
+use Rattle.report_form.proofs.NumbersLaws.{sane_report, stuck_number, open_injective, strict_open}
+use Rattle.report_form.proofs.EndLaws.{end_place}
+use Rattle.report_form.proofs.RowTold.{told_said, AllTold}
+use Rattle.report_form.proofs.ReportTold.{report_piece, report_into, report_back}
 use Rattle.report_form.proofs.LineLaws.{told_of}
 use Rattle.report_form.proofs.WritingLaws.{head_of, writing_text, lines_said, lines_good, lines_length, Parts, good_parts, front_good, writing_of, again_text, again_said, again_good}
 

@@ -1,6 +1,6 @@
 -- What is read before the records: up to the end, and on from there, or refused there where the end is below begin.
 use mathlib.Core.Path.{◌≡◌, refl, sym, ap, ◌∙◌, subst}
-use mathlib.Core.List.{List, [], ◌∷◌, ◌++◌, map, flatten, append_assoc, append-eq-nil_iff}
+use mathlib.Core.List.{[], ◌∷◌, ◌++◌, map, flatten, append_assoc, append-eq-nil_iff}
 use mathlib.Core.Bool.{Bool, true, false}
 use Prim.Native.Nat.{ℕ, suc, ◌+◌, ◌<◌}
 use Prim.Native.String.{String}
@@ -14,14 +14,14 @@ use Rattle.octets.specs.Decimal.{decimal}
 use Rattle.octets.specs.Refusing.{refusal}
 use Rattle.report.specs.Report.{published, policy_published, record_element, report_text}
 use Rattle.report.proofs.Regrouping.{leaf, ◌·◌, whole, along, regroup, lit, val}
-use Rattle.parsing.specs.Reads.{Reads, give, ◌>>=◌, ◌>>◌, stuck, run, feed}
+use Rattle.parsing.specs.Reads.{Reads, give, ◌>>=◌, stuck, run, feed}
 use Rattle.parsing.specs.code.Whole.{Whole}
 use Rattle.parsing.proofs.ReadsLaws.{after_rows, then_feed, run_append}
 use Rattle.parsing.proofs.SilentLaws.{Silent, silent_none, silent_both, silent_bind, silent_then}
 use Rattle.report_form.specs.ReportForm.{Widths, widths, Said, Writing, text_of, good}
 use Rattle.report_form.specs.code.ReportReading.{reading_literal as literal, reading_number as number, reading_row as row, records_from, report_by, reading_report as report, new_reader}
 use Rattle.report_form.specs.ReportClaims.{opening_of, end_place}
-use Rattle.report_form.proofs.Telling.{Tells, tells_literal}
+use Rattle.report_form.proofs.Telling.{tells_literal}
 use Rattle.report_form.proofs.TextBack.{tells_text, tells_id}
 use Rattle.report_form.proofs.NumberLaws.{refused_at, refused_number}
 use Rattle.report_form.proofs.NameBack.{tells_name}

@@ -1,14 +1,14 @@
 -- When rows are handed out: each with the last octet of its record.
 use mathlib.Core.Path.{◌≡◌, refl, sym, ap, ◌∙◌, subst}
-use mathlib.Core.List.{List, [], ◌∷◌, ◌++◌, map, flatten, append_assoc, append-nil}
+use mathlib.Core.List.{List, [], ◌∷◌, ◌++◌, map, flatten, append_assoc}
 use mathlib.Core.Bool.{Bool, true, false, false≢true}
-use Prim.Native.Nat.{ℕ, zero, suc, ◌+◌, ◌-◌, ◌≤◌, ◌<◌}
+use Prim.Native.Nat.{ℕ, zero, suc, ◌+◌, ◌-◌, ◌≤◌}
 use native.Mathlib.Omega.{arith}
 use lib.Dec.{leb}
 use lib.ListN.{length, take, length-append}
 use borrow.Author.Tests.{leb-true, leb-false}
 use Rattle.std.specs.Prelude.{if◌then◌else◌}
-use Rattle.octets.specs.Octets.{Octets, octets, is_empty, all}
+use Rattle.octets.specs.Octets.{octets, is_empty, all}
 use Rattle.report.specs.Report.{Line, record_element}
 use Rattle.parsing.specs.Reads.{Reads, give, ◌>>=◌, run, feed}
 use Rattle.parsing.proofs.SilentLaws.{Silent, silent_both, silent_bind, row_later, row_now, whole_quiet}

@@ -3,11 +3,7 @@ use mathlib.Core.Path.{◌≡◌, refl, sym, ap, ◌∙◌, subst}
 use mathlib.Core.List.{List, [], ◌∷◌, ◌++◌, append_assoc, append-nil}
 use mathlib.Core.Bool.{Bool, true, false, false≢true}
 use mathlib.Core.Option.{Option, none as nothing, some as just}
-use Prim.Native.Nat.{ℕ, zero, suc, ◌≤◌, ◌<◌}
-use native.Mathlib.Omega.{arith}
-use lib.ListN.{length}
-use Rattle.std.specs.Prelude.{if◌then◌else◌}
-use Rattle.octets.specs.Octets.{Octets, octets, is_empty, all, between}
+use Rattle.octets.specs.Octets.{Octets, octets}
 use Rattle.policy.specs.declared.Policy.{Policy}
 use Rattle.report.specs.Xml.{element, with_entities}
 use Rattle.parsing.specs.Reads.{Reads, done, ◌>>=◌, ◌>>◌}
@@ -18,7 +14,7 @@ use Rattle.report_form.proofs.WholeLaws.{Cut, whole_bind, whole_cut}
 use Rattle.report_form.proofs.Telling.{Tells, whole_done, done_whole, tells_done, tells_literal, tells_bind, tells_then, tells_word}
 use Rattle.report_form.proofs.TextBack.{GoodText, tells_text}
 use Rattle.report_form.proofs.WordsTold.{policy_text, tells_policy, tells_extra, extra_text, tells_np, np_text, tells_tag, tag_text}
-use Rattle.report.proofs.Regrouping.{Tree, leaf, ◌·◌, whole, along, regroup, lit, val, el}
+use Rattle.report.proofs.Regrouping.{leaf, ◌·◌, whole, along, regroup, lit, val, el}
 
 unfoldable tells_compute : Unit {0}
 unfolding tells_then tells_bind tells_literal tells_done tells_word tells_text tells_policy tells_extra tells_np tells_tag

@@ -1,32 +1,30 @@
 -- A line of Ask 9, by the values that its record tells; and back.
 use mathlib.Core.Path.{◌≡◌, refl, sym, ap, ◌∙◌, subst}
-use mathlib.Core.List.{List, [], ◌∷◌, ◌++◌, map, flatten, append_assoc, append-nil}
+use mathlib.Core.List.{List, [], ◌∷◌, ◌++◌, map, flatten, append-nil}
 use mathlib.Core.Logic.{◌⊎◌, inl, inr}
-use mathlib.Core.Bool.{Bool, true, false, ◌&&◌, ◌||◌, not, false≢true, true≢false}
+use mathlib.Core.Bool.{Bool, true, false, ◌&&◌, ◌||◌, not, true≢false}
 use mathlib.Core.Option.{Option, none as nothing, some as just}
-use Prim.Native.Nat.{ℕ, zero, suc, ◌+◌, ◌-◌, ◌^◌, ◌≤◌, ◌<◌}
+use Prim.Native.Nat.{ℕ, suc, ◌+◌, ◌≤◌, ◌<◌}
 use native.Mathlib.Omega.{arith}
-use lib.Dec.{eqb, leb, ltb}
-use lib.ListN.{length, get_or}
-use borrow.Author.Tests.{eqb-true, eqb-false, ne_eqb, eq-eqb, leb-true, le-leb}
-use Rattle.std.specs.Prelude.{if◌then◌else◌}
-use Rattle.octets.specs.Octets.{Octets, octets, is_nothing, all, same, between, lower, is_set, flag}
+use lib.Dec.{eqb, leb}
+use lib.ListN.{length}
+use borrow.Author.Tests.{eqb-true, eq-eqb, leb-true, le-leb}
+use Rattle.octets.specs.Octets.{Octets, is_nothing, all, between, lower, is_set, flag}
 use Rattle.octets.specs.Decimal.{decimal}
-use Rattle.domain.specs.Domain.{Domain, is_domain}
+use Rattle.domain.specs.Domain.{is_domain}
 use Rattle.policy.specs.declared.Policy.{Policy}
 use Rattle.rows.specs.declared.Row.{Row}
-use Rattle.rows.specs.declared.Seen.{Seen}
-use Rattle.rows.specs.Lists.{Reported, Named, good_set}
+use Rattle.rows.specs.Lists.{Reported, good_set}
 use Rattle.report.specs.Xml
 use Rattle.report.specs.Xml.{element}
-use Rattle.report.specs.Report.{row_policy, Line, reported_disposition, result_of_alignment, outcome_word, policy_evaluated, row_element, dkim_element, spf_element, auth_results, record_element, good_identifier, good_line}
-use Rattle.report_form.specs.ReportForm.{Widths, Said, said_dkim, said_spf, said_identifiers, said, good_row, good_entry}
+use Rattle.report.specs.Report.{row_policy, Line, reported_disposition, result_of_alignment, policy_evaluated, row_element, dkim_element, spf_element, auth_results, record_element, good_identifier, good_line}
+use Rattle.report_form.specs.ReportForm.{Widths, said_dkim, said_spf, said_identifiers, said, good_row, good_entry}
 use Rattle.report_form.specs.code.ReportReading.{Disposition, passed, applied, policy_read as policy_of}
 use Rattle.report_form.proofs.TextBack.{both_true}
 use Rattle.report_form.proofs.NameBack.{GoodName, name_lower}
 use Rattle.report_form.proofs.Addresses
 use Rattle.report_form.proofs.WordsTold.{written_as, dkim_allowed, spf_allowed}
-use Rattle.report_form.proofs.ResultsTold.{Sig, Snd, dkim_of, spf_of, dkim_piece, spf_piece, GoodSig, GoodSnd, Results, listed, from_text, results_list, AllSigs, GoodFrom, one_if, GoodResults}
+use Rattle.report_form.proofs.ResultsTold.{Sig, Snd, dkim_of, spf_of, dkim_piece, spf_piece, GoodSig, GoodSnd, listed, from_text, results_list, AllSigs, GoodFrom, one_if, GoodResults}
 use Rattle.report_form.proofs.RowTold.{Told, GoodTold, told_said, record_piece}
 use Rattle.octets.proofs.TextLaws.{flag_said}
 use Rattle.rows.proofs.SetLaws.{Fine, set_fine, fine_set}

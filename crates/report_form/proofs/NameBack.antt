@@ -1,15 +1,14 @@
 -- A name that is read keeps the rule of domains, and is in lower case.
 use mathlib.Core.Path.{◌≡◌, refl, sym, ap, ◌∙◌, subst}
-use mathlib.Core.List.{List, [], ◌∷◌, ◌++◌, map, append_assoc, append-nil, cons≢nil}
-use mathlib.Core.Bool.{Bool, true, false, ◌&&◌, ◌||◌, not, false≢true, and-false}
-use mathlib.Core.Option.{Option, none as nothing, some as just, none-ne-some}
+use mathlib.Core.List.{List, [], ◌∷◌, ◌++◌, map, append_assoc, append-nil}
+use mathlib.Core.Bool.{Bool, true, false, ◌&&◌, ◌||◌, not, false≢true}
+use mathlib.Core.Option.{none as nothing}
 use Prim.Native.Nat.{ℕ, zero, suc, ◌+◌, ◌≤◌, ◌<◌}
 use native.Mathlib.Omega.{arith}
 use lib.Dec.{eqb, leb, ltb}
 use lib.ListN.{length}
-use borrow.Author.Tests.{eq-eqb, eqb-true, ltb-true, leb-true, le-leb, ne_eqb}
-use Rattle.std.specs.Prelude.{if◌then◌else◌}
-use Rattle.octets.specs.Octets.{Octets, octets, is_empty, all, any, between, is_letter, is_digit, one_of, made_of, lower, lower_octet, split, onto_first}
+use borrow.Author.Tests.{eqb-true, ltb-true, leb-true, le-leb, ne_eqb}
+use Rattle.octets.specs.Octets.{Octets, octets, all, between, is_letter, is_digit, one_of, made_of, lower, lower_octet, split, onto_first}
 use Rattle.octets.proofs.TextLaws.{lower_length, lower_lower}
 use Rattle.domain.specs.Domain.{Domain, domain_octet, labels, good_label, first_bad, domain_fault, is_domain}
 use Rattle.parsing.specs.Reads.{Reads, done}
@@ -17,7 +16,7 @@ use Rattle.parsing.specs.code.Whole.{Whole}
 use Rattle.report_form.specs.ReportForm.{Said}
 use Rattle.report_form.specs.code.ReportReading.{spelled_octet, name_allows, name_from, name}
 use Rattle.report_form.proofs.WholeLaws.{octet_whole}
-use Rattle.report_form.proofs.NameLaws.{Rest, ends, dot, octet, AllGood, Good, split_some, domain_parts, whole_domain}
+use Rattle.report_form.proofs.NameLaws.{Rest, ends, dot, octet, AllGood, Good, domain_parts, whole_domain}
 use Rattle.report_form.proofs.Telling.{Tells, done_whole}
 use Rattle.report_form.proofs.TextBack.{both_true, not_false}
 

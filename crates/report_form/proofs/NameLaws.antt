@@ -1,19 +1,17 @@
 -- A name that is read: octet by octet, its labels and its length within their limits.
 use mathlib.Core.Path.{◌≡◌, refl, sym, ap, ◌∙◌, subst}
 use mathlib.Core.List.{List, [], ◌∷◌, ◌++◌, append_assoc, append-nil, cons≢nil, head-eq_of_cons-eq, tail-eq_of_cons-eq}
-use mathlib.Core.Bool.{Bool, true, false, ◌&&◌, not, false≢true}
+use mathlib.Core.Bool.{Bool, true, false, ◌&&◌, false≢true}
 use mathlib.Core.Option.{Option, none as nothing, some as just, none-ne-some}
 use Prim.Native.Nat.{ℕ, zero, suc, ◌+◌, ◌≤◌, ◌<◌}
 use native.Mathlib.Omega.{arith}
 use native.Mathlib.Nat.{not-suc-le-zero, le_of_suc-le-suc}
-use lib.Dec.{eqb, leb, ltb}
+use lib.Dec.{eqb, leb}
 use lib.ListN.{length}
 use borrow.Author.Tests.{lt-ltb, leb-true, eqb-true}
-use Rattle.std.specs.Prelude.{if◌then◌else◌}
-use Rattle.octets.specs.Octets.{Octets, octets, is_empty, all, any, same, between, is_letter, is_digit, one_of, made_of, lower, lower_octet, split, onto_first}
-use Rattle.octets.proofs.TextLaws.{same_true}
+use Rattle.octets.specs.Octets.{Octets, octets, all, any, between, is_letter, is_digit, one_of, made_of, lower, lower_octet, split, onto_first}
 use Rattle.domain.specs.Domain.{domain_octet, labels, good_label, first_bad, domain_fault, is_domain}
-use Rattle.parsing.specs.Reads.{Reads, done}
+use Rattle.parsing.specs.Reads.{done}
 use Rattle.parsing.specs.code.Whole.{Whole}
 use Rattle.report_form.specs.ReportForm.{Said}
 use Rattle.report_form.specs.code.ReportReading.{spelled_octet, name_allows, name_from, name, id_from, id}

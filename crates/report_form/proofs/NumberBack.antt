@@ -3,22 +3,22 @@ use mathlib.Core.Path.{◌≡◌, refl, sym, ap, ◌∙◌, subst}
 use mathlib.Core.List.{List, [], ◌∷◌, ◌++◌, append_assoc, append-nil}
 use mathlib.Core.Bool.{Bool, true, false, ◌&&◌, ◌||◌, not, true≢false, false≢true}
 use mathlib.Core.Option.{Option, none as nothing, some as just, none-ne-some}
-use Prim.Native.Nat.{ℕ, zero, suc, ◌+◌, ◌-◌, ◌*◌, ◌^◌, ◌/◌, ◌%◌, ◌≤◌, ◌<◌}
+use Prim.Native.Nat.{ℕ, zero, suc, ◌+◌, ◌-◌, ◌*◌, ◌/◌, ◌%◌, ◌≤◌, ◌<◌}
 use native.Mathlib.Omega.{arith}
-use lib.Dec.{eqb, leb, ltb}
+use lib.Dec.{eqb, leb}
 use lib.ListN.{length, length-append}
-use borrow.Author.Tests.{le-leb, leb-true, lt-leb, ne_eqb, eqb-true, eq-eqb}
+use borrow.Author.Tests.{leb-true, eqb-true}
 use Rattle.std.specs.Prelude.{if◌then◌else◌}
 use Rattle.octets.specs.Octets.{Octets, is_digit, between}
 use Rattle.octets.specs.Decimal.{decimal}
-use Rattle.octets.proofs.DecimalLaws.{decimal_one, decimal_more, length_one, length_more}
+use Rattle.octets.proofs.DecimalLaws.{decimal_one, decimal_more, length_one}
 use Rattle.parsing.specs.Reads.{Reads, done, next}
 use Rattle.parsing.specs.code.Whole.{Whole}
 use Rattle.report_form.specs.ReportForm.{Said}
 use Rattle.report_form.specs.code.ReportReading.{digit_refused, number_refused, digits_more as number_from, reading_number as number}
 use Rattle.report_form.proofs.NumberLaws.{decimal_few, whole_number}
 use Rattle.report_form.proofs.Telling.{Tells, done_whole}
-use Rattle.report_form.proofs.TextBack.{both_true, not_false}
+use Rattle.report_form.proofs.TextBack.{both_true}
 
 next_whole : {A : Type 0} (refuses : ℕ → Option ℕ) (k : ℕ → Reads Said A) (s : Octets) (rs : List Said) (a : A) → Whole (next refuses k) s rs a → (x : ℕ) × (u : Octets) × (s ≡ x ∷ u) × (refuses x ≡ nothing) × Whole (k x) u rs a
 unfolding Whole

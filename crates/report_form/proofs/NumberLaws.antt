@@ -1,19 +1,18 @@
 -- A number that is read is one in decimal.
 use mathlib.Core.Path.{◌≡◌, refl, sym, ap, ◌∙◌, subst}
-use mathlib.Core.List.{List, [], ◌∷◌, ◌++◌, append_assoc}
-use mathlib.Core.Bool.{Bool, true, false, ◌&&◌, ◌||◌, not, true≢false}
-use mathlib.Core.Option.{Option, none as nothing, some as just}
-use Prim.Native.Nat.{ℕ, zero, suc, ◌+◌, ◌-◌, ◌*◌, ◌^◌, ◌/◌, ◌%◌, ◌≤◌, ◌<◌}
+use mathlib.Core.List.{[], ◌∷◌, ◌++◌, append_assoc}
+use mathlib.Core.Bool.{Bool, true, false, true≢false}
+use mathlib.Core.Option.{Option, none as nothing}
+use Prim.Native.Nat.{ℕ, zero, suc, ◌+◌, ◌-◌, ◌*◌, ◌/◌, ◌%◌, ◌≤◌, ◌<◌}
 use native.Mathlib.Omega.{arith}
-use lib.Dec.{eqb, leb, ltb}
+use lib.Dec.{ltb}
 use lib.ListN.{length, length-append}
-use borrow.Author.Tests.{le-leb, lt-leb, ne_eqb, ltb-true, ltb-false}
-use Rattle.std.specs.Prelude.{if◌then◌else◌}
+use borrow.Author.Tests.{le-leb, ne_eqb, ltb-true, ltb-false}
 use Rattle.octets.specs.Octets.{Octets, is_digit, between}
 use Rattle.octets.specs.Decimal.{digits, decimal}
 use Rattle.octets.proofs.DecimalLaws.{decimal_one, decimal_more}
 use Rattle.octets.specs.Refusing.{refusal}
-use Rattle.parsing.specs.Reads.{Reads, done, next, ◌>>=◌, stuck, Fed, stands, run}
+use Rattle.parsing.specs.Reads.{Reads, next, ◌>>=◌, stuck, Fed, stands, run}
 use Rattle.parsing.specs.code.Whole.{Whole}
 use Rattle.parsing.proofs.ReadsLaws.{run_on, run_stuck}
 use Rattle.report_form.specs.ReportForm.{Said}

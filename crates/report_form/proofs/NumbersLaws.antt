@@ -4,19 +4,18 @@ use mathlib.Core.List.{List, [], ◌∷◌, ◌++◌}
 use mathlib.Core.Logic.{◌⊎◌, inl, inr}
 use mathlib.Core.Bool.{Bool, true, false, ◌&&◌, ◌||◌, not}
 use mathlib.Core.Option.{Option, none as nothing, some as just, none-ne-some, some-injective}
-use Prim.Native.Nat.{ℕ, zero, suc, ◌+◌, ◌-◌, ◌*◌, ◌^◌}
+use Prim.Native.Nat.{ℕ, zero, suc, ◌+◌, ◌-◌, ◌*◌}
 use Prim.Native.String.{String}
 use native.Mathlib.Omega.{arith}
 use lib.Dec.{eqb, leb}
 use lib.ListN.{length}
 use Rattle.std.specs.Prelude.{if◌then◌else◌}
 use Rattle.octets.specs.Octets.{Octets, octets, is_digit}
-use Rattle.octets.specs.Refusing.{refusal}
 use Rattle.octets.specs.declared.Refusal.{Refusal}
 use Rattle.policy.specs.declared.Policy.{Policy}
 use Rattle.rows.specs.Lists.{Reported}
-use Rattle.parsing.specs.Reads.{Reads, done, give, next, ◌>>=◌, ◌>>◌, octet_where, exactly, Left, open_at, stuck, Reader, run, handing}
-use Rattle.report_form.specs.ReportForm.{Widths, widths, Said}
+use Rattle.parsing.specs.Reads.{Reads, done, give, next, ◌>>=◌, ◌>>◌, octet_where, exactly, Left, open_at, stuck, run, handing}
+use Rattle.report_form.specs.ReportForm.{Widths, Said}
 use Rattle.report_form.specs.code.ReportReading.{first_is as starts, rest_of, among, chosen, one_word, reading_literal as literal, policy, mode, outcome, reading_entity as entity, text_from, text, id_from, id, digit_refused, number_refused, digits_more as number_from, reading_number as number, name_from, name, Address, source_of, with_digit, ends_number, next_number, digits_from, address_from, reading_address as address, Disposition, passed, applied, disposition, only, fail_or_pass, dkim_after, spf_after, signature, sender, Item, dkim_item, spf_item, no_item, item, results_from, reading_row as row, records_from, extra_or_id, PolicyTag as Tag, sp_tag, np_tag, adkim_tag, np_then, policies, report_by, either}
 use Rattle.parsing.proofs.ReadsLaws.{run_on, run_stuck}
 use Rattle.parsing.proofs.ReadsClaimed.{open≢stuck, stuck_injective}

@@ -1,16 +1,16 @@
 -- Every good writing is what Ask 9 writes, from some list and from lists that are packed for it.
 use mathlib.Core.Path.{◌≡◌, refl, sym, ap, ◌∙◌, subst}
-use mathlib.Core.List.{List, [], ◌∷◌, ◌++◌, map, flatten, append_assoc, append-nil}
+use mathlib.Core.List.{List, [], ◌∷◌, ◌++◌, map, flatten, append_assoc}
 use mathlib.Core.Bool.{Bool, true, false, ◌&&◌, ◌||◌, not, false≢true, true≢false}
-use mathlib.Core.Option.{Option, none as nothing, some as just, none-ne-some, some-injective}
-use Prim.Native.Nat.{ℕ, zero, suc, ◌+◌, ◌-◌, ◌*◌, ◌^◌, ◌/◌, ◌%◌, ◌≤◌, ◌<◌}
+use mathlib.Core.Option.{none as nothing, some as just}
+use Prim.Native.Nat.{ℕ, zero, suc, ◌+◌, ◌/◌, ◌%◌, ◌≤◌}
 use native.Mathlib.Omega.{arith}
 use lib.Dec.{eqb, leb}
-use lib.ListN.{length, take, drop, get_or, length-append}
+use lib.ListN.{length, take, drop, length-append}
 use borrow.Author.Tests.{le-leb, leb-true, ne_eqb}
 use Rattle.std.specs.Prelude.{if◌then◌else◌}
-use Rattle.octets.specs.Octets.{Octets, octets, is_empty, is_nothing, all, same, between, lower}
-use Rattle.octets.specs.Refusing.{◌>>=◌, OrRefused, ok, not_ok, refusal, refuse_if, or_refuse}
+use Rattle.octets.specs.Octets.{Octets, octets, is_empty, is_nothing, all, same, lower}
+use Rattle.octets.specs.Refusing.{◌>>=◌, OrRefused, ok, not_ok, refuse_if, or_refuse}
 use Rattle.octets.specs.Framing.{size_of, body_of, after_record, is_whole}
 use Rattle.octets.proofs.FramingLaws.{whole}
 use Rattle.octets.specs.declared.Refusal.{Refusal}
@@ -19,19 +19,19 @@ use Rattle.domain.proofs.AskedLaws.{all_good}
 use Rattle.domain.proofs.DotLaws.{good_undotted}
 use Rattle.policy.specs.declared.Settings.{Settings}
 use Rattle.alignment.specs.Alignments.{Identifier}
-use Rattle.book.specs.Start.{GivenIdentifier, identifiers_from}
+use Rattle.book.specs.Start.{identifiers_from}
 use Rattle.reporting.specs.FileName.{good_id}
 use Rattle.rows.specs.declared.Row.{Row}
-use Rattle.rows.specs.Lists.{Lists, Reported, reported, body_or_empty, first_body, body_at, set_most, set_in, with_good_domain, good_set, set_of, Named, both_named, named_by}
+use Rattle.rows.specs.Lists.{Lists, Reported, reported, body_or_empty, first_body, body_at, set_most, set_in, with_good_domain, good_set, set_of, both_named, named_by}
 use Rattle.rows.specs.Rows.{Listing, is_free, on_list}
 use Rattle.report.specs.Xml.{element}
 use Rattle.report.specs.Report.{Reporter, metadata, published, policy_published, Line, dkim_element, spf_element, auth_results, row_element, policy_evaluated, record_element, report_text, counted_rows, add_line, lines, good_texts, good_identifier, good_line, good_file, report}
-use Rattle.report_form.specs.ReportForm.{Widths, widths, good_row, good_entry, good_lines, good_front, Writing, text_of, good}
+use Rattle.report_form.specs.ReportForm.{widths, good_row, good_entry, good_front, Writing, text_of, good}
 use Rattle.report_form.specs.ReportClaims.{Kept}
 use Rattle.octets.proofs.TextLaws.{same_true}
-use Rattle.report_form.proofs.TextBack.{both_true, not_false}
+use Rattle.report_form.proofs.TextBack.{both_true}
 use Rattle.report_form.proofs.LineLaws.{row_parts, entry_parts}
-use Rattle.report_form.proofs.WritingLaws.{Parts, good_parts}
+use Rattle.report_form.proofs.WritingLaws.{good_parts}
 
 -- ------------------------------------------------------------------ records one after another
 

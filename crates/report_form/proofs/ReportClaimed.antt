@@ -1,12 +1,5 @@
 -- What is proved of reading an aggregate report.
-use mathlib.Core.Path.{◌≡◌, refl}
-use mathlib.Core.Logic.{◌⊎◌, inl, inr}
-use lib.Dec.{leb}
-use Rattle.octets.specs.Octets.{Octets}
-use Rattle.octets.specs.declared.Refusal.{Refusal}
-use Rattle.parsing.specs.Reads.{stuck, run, feed}
-use Rattle.report_form.specs.ReportForm.{widths}
-use Rattle.report_form.specs.code.ReportReading.{reading_report as report, new_reader}
+use Rattle.report_form.specs.code.ReportReading.{reading_report as report}
 use Rattle.report_form.specs.ReportClaims.{ReportClaims, WritesClaims, ReportParts}
 use Rattle.parsing.proofs.ReadsClaimed.{parts}
 use Rattle.report_form.proofs.WhichClaimed.{number}

@@ -1,9 +1,8 @@
 -- The report: what is read whole is what Ask 9 writes.
-use mathlib.Core.Path.{◌≡◌, refl, sym, ap, ◌∙◌, subst}
-use mathlib.Core.List.{List, [], ◌∷◌, ◌++◌, map, flatten, append_assoc, append-nil}
-use mathlib.Core.Bool.{Bool, true, false}
-use mathlib.Core.Option.{Option, none as nothing, some as just}
-use Prim.Native.Nat.{ℕ, zero, suc, ◌+◌, ◌-◌, ◌^◌, ◌≤◌, ◌<◌}
+use mathlib.Core.Path.{◌≡◌, refl, ap, ◌∙◌, subst}
+use mathlib.Core.List.{List, [], ◌∷◌, ◌++◌, map, flatten}
+use mathlib.Core.Bool.{Bool, true}
+use Prim.Native.Nat.{ℕ, ◌≤◌}
 use native.Mathlib.Omega.{arith}
 use lib.ListN.{length}
 use Rattle.octets.specs.Octets.{Octets, octets}
@@ -14,11 +13,10 @@ use Rattle.policy.specs.declared.Mode.{Mode}
 use Rattle.reporting.specs.FileName.{good_id}
 use Rattle.report.specs.Report.{published_mode, published_testing}
 use Rattle.report.specs.Xml.{element, with_entities}
-use Rattle.parsing.specs.Reads.{Reads, done, give, ◌>>=◌, ◌>>◌}
 use Rattle.parsing.specs.code.Whole.{Whole}
 use Rattle.report_form.specs.ReportForm.{Widths, Said}
-use Rattle.report_form.specs.code.ReportReading.{reading_literal as literal, text, extra_or_id, id, reading_number as number, reading_row as row, records_from, report_by}
-use Rattle.report_form.proofs.Telling.{Tells, tells_done, tells_literal, tells_bind, tells_then, tells_give, tells_word}
+use Rattle.report_form.specs.code.ReportReading.{reading_number as number, records_from, report_by}
+use Rattle.report_form.proofs.Telling.{Tells, tells_literal, tells_bind, tells_then, tells_give, tells_word}
 use Rattle.report_form.proofs.TextBack.{GoodText, tells_text, tells_id}
 use Rattle.report_form.proofs.NumberBack.{tells_number}
 use Rattle.report_form.proofs.NameBack.{GoodName, tells_name}

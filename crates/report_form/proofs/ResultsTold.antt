@@ -1,11 +1,8 @@
 -- Identifiers: what is read whole is what Ask 9 writes.
 use mathlib.Core.Path.{◌≡◌, refl, sym, ap, ◌∙◌, subst}
 use mathlib.Core.List.{List, [], ◌∷◌, ◌++◌, map, flatten, append_assoc, append-nil}
-use mathlib.Core.Logic.{◌⊎◌, inl, inr}
-use mathlib.Core.Bool.{Bool, true, false}
 use mathlib.Core.Option.{Option, none as nothing, some as just}
 use Prim.Native.Nat.{ℕ, zero, suc, ◌+◌, ◌≤◌, ◌<◌}
-use Prim.Native.String.{String}
 use native.Mathlib.Omega.{arith}
 use lib.ListN.{length}
 use Rattle.octets.specs.Octets.{Octets, octets}
@@ -18,10 +15,10 @@ use Rattle.parsing.specs.code.Whole.{Whole}
 use Rattle.report_form.specs.ReportForm.{Said}
 use Rattle.report_form.specs.code.ReportReading.{reading_literal as literal, signature, sender, Item, dkim_item, spf_item, no_item, item, results_from}
 use Rattle.report_form.proofs.WholeLaws.{Cut, whole_bind, whole_cut}
-use Rattle.report_form.proofs.Telling.{Tells, Same, whole_done, done_whole, tells_done, tells_literal, tells_bind, tells_then, tells_as, tells_word}
+use Rattle.report_form.proofs.Telling.{Tells, whole_done, done_whole, tells_done, tells_literal, tells_bind, tells_then, tells_word}
 use Rattle.report_form.proofs.NameBack.{GoodName, tells_name}
 use Rattle.report_form.proofs.WordsTold.{tells_outcome, tells_item, item_text}
-use Rattle.report.proofs.Regrouping.{Tree, leaf, ◌·◌, whole, along, regroup, lit, val, el}
+use Rattle.report.proofs.Regrouping.{leaf, ◌·◌, whole, along, regroup, lit, val, el}
 
 -- ------------------------------------------------------------------ one identifier
 

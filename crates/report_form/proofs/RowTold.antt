@@ -1,30 +1,29 @@
 -- Records: what is read whole is what Ask 9 writes.
 use mathlib.Core.Path.{◌≡◌, refl, sym, ap, ◌∙◌, subst}
-use mathlib.Core.List.{List, [], ◌∷◌, ◌++◌, map, flatten, append_assoc, append-nil}
+use mathlib.Core.List.{List, [], ◌∷◌, ◌++◌, map, flatten, append_assoc}
 use mathlib.Core.Bool.{Bool, true, false}
-use Prim.Native.Nat.{ℕ, zero, suc, ◌+◌, ◌-◌, ◌^◌, ◌≤◌, ◌<◌}
+use Prim.Native.Nat.{ℕ, zero, suc, ◌≤◌}
 use native.Mathlib.Omega.{arith}
 use lib.ListN.{length}
-use Rattle.octets.specs.Octets.{Octets, octets, all, between}
+use Rattle.octets.specs.Octets.{Octets, octets}
 use Rattle.octets.specs.Decimal.{decimal}
 use Rattle.domain.specs.Domain.{Domain}
-use Rattle.rows.specs.Lists.{Reported}
 use Rattle.report.specs.Xml
 use Rattle.report.specs.Xml.{element}
 use Rattle.report.specs.Report.{result_of_alignment}
 use Rattle.parsing.specs.Reads.{Reads, done, give, ◌>>=◌, ◌>>◌}
 use Rattle.parsing.specs.code.Whole.{Whole}
 use Rattle.report_form.specs.ReportForm.{Widths, Said}
-use Rattle.report_form.specs.code.ReportReading.{reading_literal as literal, one_word, Disposition, policy_read as policy_of, reading_number as number, results_from, reading_row as row, records_from}
+use Rattle.report_form.specs.code.ReportReading.{reading_literal as literal, one_word, Disposition, policy_read as policy_of, reading_number as number, reading_row as row, records_from}
 use Rattle.report_form.proofs.WholeLaws.{Cut, whole_bind, whole_cut}
-use Rattle.report_form.proofs.Telling.{Tells, Same, whole_done, done_whole, give_into, give_back, tells_done, tells_literal, tells_bind, tells_then, tells_as, tells_word}
+use Rattle.report_form.proofs.Telling.{Tells, whole_done, done_whole, give_into, give_back, tells_done, tells_literal, tells_bind, tells_then, tells_word}
 use Rattle.report_form.proofs.NumberBack.{tells_number}
 use Rattle.report_form.proofs.NameBack.{GoodName, tells_name}
 use Rattle.report_form.proofs.Addresses
 use Rattle.report_form.proofs.Addresses.{tells_address}
 use Rattle.report_form.proofs.WordsTold.{tells_disposition, written_as, tells_dkim, tells_spf, dkim_allowed, spf_allowed, tells_more, more_text}
 use Rattle.report_form.proofs.ResultsTold.{Results, tells_results, results_text, results_list, from_text, dkim_piece, dkim_of, GoodResults}
-use Rattle.report.proofs.Regrouping.{Tree, leaf, ◌·◌, whole, along, regroup, lit, val, el}
+use Rattle.report.proofs.Regrouping.{leaf, ◌·◌, whole, along, regroup, lit, val, el}
 
 module _ (ws : Widths) where
   unfoldable pub tells_count : Tells (number 1 ws.counts (λ n. true))

@@ -1,18 +1,16 @@
 -- What a program reads, told by data: the texts, with their rows and values, that it reads whole, and no others.
 use mathlib.Core.Path.{◌≡◌, refl, sym, ap, ◌∙◌, subst}
-use mathlib.Core.List.{List, [], ◌∷◌, ◌++◌, append_assoc, append-nil, cons≢nil}
+use mathlib.Core.List.{List, [], ◌∷◌, ◌++◌, append-nil}
 use mathlib.Core.Logic.{◌⊎◌, inl, inr}
 use mathlib.Core.Bool.{Bool, true, false, ◌||◌, false≢true}
 use Prim.Native.Nat.{ℕ}
 use Prim.Native.String.{String}
-use lib.Dec.{eqb}
 use borrow.Author.Tests.{eqb-true}
 use Rattle.octets.specs.Octets.{Octets, octets}
-use Rattle.parsing.specs.Reads.{Reads, done, give, next, ◌>>=◌, ◌>>◌, octet_where, exactly, run, open_at}
+use Rattle.parsing.specs.Reads.{Reads, done, give, ◌>>=◌, ◌>>◌, exactly}
 use Rattle.parsing.specs.code.Whole.{Whole}
 use Rattle.report_form.specs.ReportForm.{Said}
 use Rattle.report_form.specs.code.ReportReading.{first_is as starts, rest_of, among, chosen, one_word, reading_literal as literal}
-use Rattle.parsing.proofs.ReadsClaimed.{whole_run}
 use Rattle.report_form.proofs.WholeLaws.{whole_bind, whole_cut, octet_whole, whole_exactly, exactly_whole}
 
 pub record Tells {A : Type 0} (t : Reads Said A) : Type 1 where

@@ -1,23 +1,22 @@
 -- Texts with entities, and ids: what is read is what is written.
 use mathlib.Core.Path.{◌≡◌, refl, sym, ap, ◌∙◌, subst}
-use mathlib.Core.List.{List, [], ◌∷◌, ◌++◌, map, flatten, append_assoc, append-nil, cons≢nil}
-use mathlib.Core.Logic.{◌⊎◌, inl, inr}
+use mathlib.Core.List.{List, [], ◌∷◌, ◌++◌, flatten, append_assoc}
+use mathlib.Core.Logic.{inl, inr}
 use mathlib.Core.Bool.{Bool, true, false, ◌&&◌, ◌||◌, not, false≢true, or-false}
 use Prim.Native.Nat.{ℕ, zero, suc, ◌≤◌, ◌<◌}
 use native.Mathlib.Omega.{arith}
-use native.Mathlib.Nat.{le_of_suc-le-suc, not-suc-le-zero}
-use lib.Dec.{eqb, leb}
+use native.Mathlib.Nat.{le_of_suc-le-suc}
+use lib.Dec.{eqb}
 use lib.ListN.{length}
-use borrow.Author.Tests.{eq-eqb, eqb-true, leb-true, le-leb}
-use Rattle.std.specs.Prelude.{if◌then◌else◌}
+use borrow.Author.Tests.{eqb-true, le-leb}
 use Rattle.octets.specs.Octets.{Octets, octets, is_empty, all, any, between, one_of, made_of, is_letter, is_digit}
 use Rattle.reporting.specs.FileName.{alphanumeric, good_id}
 use Rattle.report.specs.Xml
 use Rattle.report.specs.Xml.{with_entities}
-use Rattle.parsing.specs.Reads.{Reads, done, ◌>>=◌, ◌>>◌}
+use Rattle.parsing.specs.Reads.{Reads, done, ◌>>◌}
 use Rattle.parsing.specs.code.Whole.{Whole}
 use Rattle.report_form.specs.ReportForm.{Said}
-use Rattle.report_form.specs.code.ReportReading.{one_word, text_octet, reading_entity as entity, text_from, text, id_from, id}
+use Rattle.report_form.specs.code.ReportReading.{text_octet, reading_entity as entity, text_from, text, id_from, id}
 use Rattle.report_form.proofs.WholeLaws.{whole_cut, octet_whole, whole_text}
 use Rattle.report_form.proofs.NameLaws.{whole_id}
 use Rattle.report_form.proofs.Telling.{Tells, done_whole, In, word_back}

@@ -1,23 +1,21 @@
 -- Which of 20 and 21 a refusal has.
-use mathlib.Core.Path.{◌≡◌, refl, sym, ap, ◌∙◌, subst}
+use mathlib.Core.Path.{◌≡◌, refl, subst}
 use mathlib.Core.List.{List, [], ◌∷◌, ◌++◌}
 use mathlib.Core.Logic.{◌⊎◌, inl, inr}
-use mathlib.Core.Bool.{Bool, true, ◌&&◌, not}
+use mathlib.Core.Bool.{true, ◌&&◌, not}
 use Prim.Native.Nat.{ℕ, suc, ◌+◌, ◌-◌, ◌*◌, ◌^◌, ◌≤◌}
 use native.Mathlib.Omega.{arith}
 use lib.Dec.{leb}
 use lib.ListN.{length, take, get_or}
 use borrow.Author.Tests.{le-leb, leb-true}
-use Rattle.octets.specs.Octets.{Octets, is_empty, is_nothing, all, same, lower}
+use Rattle.octets.specs.Octets.{Octets, is_empty, all, same, lower}
 use Rattle.octets.specs.declared.Refusal.{Refusal}
 use Rattle.domain.specs.Domain.{Domain, is_domain}
 use Rattle.reporting.specs.FileName.{good_id}
-use Rattle.rows.specs.Lists.{good_set}
-use Rattle.report.specs.Report.{Reporter, Line, good_texts, good_line}
+use Rattle.report.specs.Report.{Reporter, Line, good_texts}
 use Rattle.parsing.specs.Reads.{stuck, run, feed}
-use Rattle.parsing.specs.code.Whole.{Begun}
-use Rattle.report_form.specs.ReportForm.{Widths, widths, good_row, good_entry, good_lines, good_front, Writing, text_of, good, Begins}
-use Rattle.report_form.specs.code.ReportReading.{apart, reading_report as report, new_reader}
+use Rattle.report_form.specs.ReportForm.{Widths, widths, good_entry, good_lines, good_front, Writing, good, Begins}
+use Rattle.report_form.specs.code.ReportReading.{apart, new_reader}
 use Rattle.report_form.specs.ReportClaims.{EndBelow, BeginsWider}
 use Rattle.parsing.proofs.ReadsClaimed.{reading}
 use Rattle.report_form.proofs.TextBack.{both_true}

@@ -1,24 +1,24 @@
 -- Of the form with wider numbers: it takes the digit that takes a number over its width, and refuses whatever else is refused.
 use mathlib.Core.Path.{◌≡◌, refl, sym, ap, ◌∙◌, subst}
-use mathlib.Core.List.{List, [], ◌∷◌, ◌++◌}
+use mathlib.Core.List.{[], ◌∷◌}
 use mathlib.Core.Logic.{◌⊎◌, inl, inr}
-use mathlib.Core.Bool.{Bool, true, false, ◌&&◌, ◌||◌, not, true≢false, false≢true}
+use mathlib.Core.Bool.{Bool, true, false, ◌&&◌, ◌||◌, not, true≢false}
 use mathlib.Core.Option.{Option, none as nothing, some as just, none-ne-some, some-injective}
-use Prim.Native.Nat.{ℕ, zero, suc, ◌+◌, ◌-◌, ◌*◌, ◌≤◌, ◌<◌}
+use Prim.Native.Nat.{ℕ, zero, suc, ◌+◌, ◌-◌, ◌*◌, ◌≤◌}
 use Prim.Native.String.{String}
 use native.Mathlib.Omega.{arith}
 use lib.Dec.{eqb, leb}
-use lib.ListN.{length, take}
+use lib.ListN.{take}
 use borrow.Author.Tests.{le-leb, leb-true}
 use Rattle.std.specs.Prelude.{if◌then◌else◌}
-use Rattle.octets.specs.Octets.{Octets, octets, is_digit, between}
+use Rattle.octets.specs.Octets.{Octets, is_digit}
 use Rattle.octets.specs.declared.Refusal.{Refusal}
 use Rattle.parsing.specs.Reads.{Reads, done, give, next, ◌>>=◌, ◌>>◌, stuck, run, handing}
 use Rattle.parsing.specs.code.Whole.{Begun, Live}
 use Rattle.parsing.proofs.ReadsLaws.{run_on, run_stuck}
 use Rattle.parsing.proofs.ReadsClaimed.{open≢stuck, stuck_injective, begun_give, begun_give_back, begun_next, begun_next_back, done_begun, live_begun}
 use Rattle.report_form.specs.ReportForm.{Widths, Said}
-use Rattle.report_form.specs.code.ReportReading.{reading_literal as literal, one_word, text, id, digit_refused, number_refused, digits_more as number_from, reading_number as number, name, next_number, either, reading_address as address, disposition, policy, mode, dkim_after, spf_after, results_from, reading_row as row, records_from, extra_or_id, policies, report_by, apart}
+use Rattle.report_form.specs.code.ReportReading.{reading_literal as literal, text, id, digit_refused, number_refused, digits_more as number_from, reading_number as number, next_number, either, reading_address as address, disposition, policy, mode, reading_row as row, records_from, report_by, apart}
 use Rattle.report_form.proofs.TextBack.{both_true}
 use Rattle.report_form.proofs.NumberBack.{taken_digit, digit_range, Before, before_more, too_long}
 use Rattle.report_form.proofs.NumbersLaws.{Sane, sane_then, sane_done, sane_literal, sane_word, sane_text, sane_id, sane_name, sane_address_from, sane_dkim, sane_spf, sane_results, sane_extra, sane_policies}

@@ -1,24 +1,21 @@
 -- Words: what is read whole is what Ask 9 writes.
 use mathlib.Core.Path.{◌≡◌, refl, sym, ap, ◌∙◌, subst}
 use mathlib.Core.List.{List, [], ◌∷◌, ◌++◌, append-nil}
-use mathlib.Core.Logic.{◌⊎◌, inl, inr}
+use mathlib.Core.Logic.{inl, inr}
 use mathlib.Core.Bool.{Bool, true, false}
 use Prim.Native.Nat.{ℕ, zero, suc, ◌<◌}
 use Prim.Native.String.{String}
 use native.Mathlib.Omega.{arith}
-use lib.Dec.{eqb}
-use lib.ListN.{get_or}
 use Rattle.octets.specs.Octets.{Octets, octets}
 use Rattle.policy.specs.declared.Policy.{Policy}
 use Rattle.policy.specs.declared.Mode.{Mode}
 use Rattle.policy.specs.declared.Setting.{Setting}
 use Rattle.publishing.specs.Publishing.{setting_value}
 use Rattle.report.specs.Report.{published_mode, published_testing}
-use Rattle.report.specs.Report.{reported_disposition, result_of_alignment, outcome_word}
-use Rattle.parsing.specs.Reads.{Reads, done, ◌>>=◌, ◌>>◌, octet_where, exactly, run, handing}
+use Rattle.report.specs.Report.{result_of_alignment, outcome_word}
+use Rattle.parsing.specs.Reads.{done, ◌>>=◌, ◌>>◌, octet_where, exactly, run, handing}
 use Rattle.parsing.specs.code.Whole.{Whole}
 use Rattle.report_form.specs.ReportForm.{Said}
-use Rattle.report_form.specs.code.ReportReading
 use Rattle.report_form.specs.code.ReportReading.{first_is as starts, rest_of, among, chosen, one_word, reading_literal as literal, policy, mode, outcome, Disposition, passed, applied, disposition, only, fail_or_pass, dkim_after, spf_after, Item, dkim_item, spf_item, no_item, item, PolicyTag as Tag, sp_tag, np_tag, adkim_tag}
 use Rattle.parsing.proofs.ReadsClaimed.{whole_run}
 use Rattle.report_form.proofs.WholeLaws.{whole_bind, whole_cut, whole_exactly, exactly_whole}

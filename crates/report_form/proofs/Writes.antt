@@ -1,26 +1,25 @@
 -- What Ask 9 writes is a text of the form.
 use mathlib.Core.Path.{◌≡◌, refl, sym, ap, ◌∙◌, subst}
-use mathlib.Core.List.{List, [], ◌∷◌, ◌++◌, map}
-use mathlib.Core.Bool.{Bool, true, false, ◌&&◌, ◌||◌, not, false≢true, true≢false}
+use mathlib.Core.List.{List, [], ◌∷◌, map}
+use mathlib.Core.Bool.{Bool, true, false, ◌&&◌, not, true≢false}
 use mathlib.Core.Option.{Option, none as nothing, some as just, none-ne-some, some-injective}
-use Prim.Native.Nat.{ℕ, zero, suc, ◌+◌, ◌-◌, ◌^◌, ◌≤◌, ◌<◌}
+use Prim.Native.Nat.{ℕ, zero, suc, ◌-◌, ◌^◌, ◌≤◌, ◌<◌}
 use native.Mathlib.Omega.{arith}
-use lib.Dec.{eqb, leb}
+use lib.Dec.{leb}
 use lib.ListN.{length, take}
-use borrow.Author.Tests.{eqb-false, leb-true, le-leb}
-use Rattle.std.specs.Prelude.{if◌then◌else◌}
-use Rattle.octets.specs.Octets.{Octets, is_empty, is_nothing, all, same, between, lower}
+use borrow.Author.Tests.{leb-true, le-leb}
+use Rattle.octets.specs.Octets.{Octets, is_empty, is_nothing, all, same, lower}
 use Rattle.octets.specs.Refusing.{◌>>=◌, OrRefused, ok, not_ok, refusal, refuse_if, or_refuse}
 use Rattle.octets.specs.declared.Refusal.{Refusal}
-use Rattle.domain.specs.Domain.{Domain, without_dot, is_domain}
+use Rattle.domain.specs.Domain.{Domain, is_domain}
 use Rattle.policy.specs.declared.Settings.{Settings}
 use Rattle.reporting.specs.FileName.{good_id}
 use Rattle.alignment.specs.Alignments.{Identifier}
 use Rattle.book.specs.Start.{identifiers_from}
 use Rattle.rows.specs.declared.Row.{Row}
 use Rattle.rows.specs.Lists.{Lists, Reported, Named, with_good_domain, good_set, set_in, set_of, body_at, both_named, named_by}
-use Rattle.rows.specs.Rows.{Listing, is_free, on_list, cleared}
-use Rattle.report.specs.Report.{Reporter, Line, report_text, counted_rows, add_line, lines, good_texts, good_line, good_file, report}
+use Rattle.rows.specs.Rows.{Listing, is_free, on_list}
+use Rattle.report.specs.Report.{Reporter, Line, counted_rows, add_line, lines, good_texts, good_line, good_file, report}
 use Rattle.report_form.specs.code.ReportReading.{read_report}
 use Rattle.report_form.proofs.FormClaimed.{reads_back}
 use Rattle.report_form.specs.ReportClaims.{Kept}
@@ -28,7 +27,7 @@ use Rattle.report_form.specs.ReportForm.{widths, said, good_row, good_entry, goo
 use Rattle.parsing.proofs.RefusingLaws.{ok≢not-ok, ok_injective}
 use Rattle.octets.proofs.TextLaws.{same_self}
 use Rattle.report_form.proofs.NameBack.{GoodName, name_lower}
-use Rattle.report_form.proofs.TextBack.{both_true, not_false}
+use Rattle.report_form.proofs.TextBack.{both_true}
 
 bind_ok : {A B : Type 0} (r : OrRefused A) (f : A → OrRefused B) (b : B) → (r >>= f) ≡ ok b → (a : A) × (r ≡ ok a) × (f a ≡ ok b)
 unfolding ◌>>=◌

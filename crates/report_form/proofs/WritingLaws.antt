@@ -1,21 +1,19 @@
 -- What Ask 9 writes, by the values that its text tells; and back.
-use mathlib.Core.Path.{◌≡◌, refl, sym, ap, ◌∙◌, subst}
-use mathlib.Core.List.{List, [], ◌∷◌, ◌++◌, map, flatten, append_assoc, append-nil}
-use mathlib.Core.Logic.{◌⊎◌, inl, inr}
-use mathlib.Core.Bool.{Bool, true, false, ◌&&◌, ◌||◌, not, false≢true, true≢false}
+use mathlib.Core.Path.{◌≡◌, refl, ap, ◌∙◌}
+use mathlib.Core.List.{List, [], ◌∷◌, ◌++◌, map, flatten}
+use mathlib.Core.Bool.{Bool, true, false, ◌&&◌, ◌||◌, not, false≢true}
 use mathlib.Core.Option.{Option, none as nothing, some as just}
-use Prim.Native.Nat.{ℕ, zero, suc, ◌+◌, ◌-◌, ◌^◌, ◌≤◌, ◌<◌}
+use Prim.Native.Nat.{ℕ, suc, ◌≤◌}
 use native.Mathlib.Omega.{arith}
-use lib.Dec.{eqb, leb, ltb}
+use lib.Dec.{eqb, leb}
 use lib.ListN.{length}
-use borrow.Author.Tests.{eqb-true, leb-true, le-leb}
+use borrow.Author.Tests.{leb-true, le-leb}
 use Rattle.std.specs.Prelude.{if◌then◌else◌}
 use Rattle.octets.specs.Octets.{Octets, octets, is_empty, all, same, between, lower}
 use Rattle.octets.proofs.TextLaws.{same_true, same_self}
 use Rattle.octets.specs.Decimal.{decimal}
-use Rattle.domain.specs.Domain.{Domain, is_domain}
+use Rattle.domain.specs.Domain.{is_domain}
 use Rattle.policy.specs.declared.Policy.{Policy}
-use Rattle.policy.specs.declared.Mode.{Mode}
 use Rattle.policy.specs.declared.Psd.{Psd}
 use Rattle.policy.specs.declared.Setting.{Setting}
 use Rattle.policy.specs.declared.Settings.{Settings}
@@ -25,12 +23,12 @@ use Rattle.publishing.specs.Publishing.{setting_value}
 use Rattle.report.specs.Report.{published_mode, published_testing}
 use Rattle.report.specs.Xml
 use Rattle.report.specs.Xml.{element, optional_element, with_entities}
-use Rattle.report.specs.Report.{Reporter, Line, date_range, metadata, published, policy_published, record_element, report_text, good_text, good_texts}
-use Rattle.report_form.specs.ReportForm.{Widths, Said, said, good_entry, good_lines, good_front, Writing, text_of, good}
+use Rattle.report.specs.Report.{Line, date_range, metadata, published, policy_published, record_element, report_text, good_text, good_texts}
+use Rattle.report_form.specs.ReportForm.{Widths, said, good_entry, good_lines, good_front, Writing, text_of, good}
 use Rattle.report_form.proofs.TextBack.{both_true, not_false, GoodText}
 use Rattle.report_form.proofs.NameBack.{GoodName}
 use Rattle.report_form.proofs.WordsTold.{policy_text, setting_text}
-use Rattle.report_form.proofs.HeadTold.{GoodExtra, extra_piece, Both, policy_piece_sp, policy_piece_np}
+use Rattle.report_form.proofs.HeadTold.{GoodExtra, extra_piece, policy_piece_sp, policy_piece_np}
 use Rattle.report_form.proofs.RowTold.{Told, GoodTold, told_said, record_piece, AllTold}
 use Rattle.report_form.specs.ReportClaims.{opening_of, front_of}
 use Rattle.report_form.proofs.ReportTold.{opening_piece, front_piece, Head, GoodHead, report_piece}

@@ -5,10 +5,9 @@ use Rattle.octets.specs.Octets.{Octets, octets, all}
 use Rattle.octets.specs.Decimal.{decimal}
 use Rattle.octets.specs.Refusing.{ok, not_ok, refusal}
 use Rattle.octets.specs.declared.Refusal.{Refusal}
-use Rattle.domain.specs.Domain.{Domain, is_domain}
 use Rattle.policy.specs.declared.Settings.{Settings}
 use Rattle.rows.specs.Lists.{Lists}
-use Rattle.rows.specs.Rows.{Listing, on_list, cleared}
+use Rattle.rows.specs.Rows.{Listing, on_list}
 use Rattle.report.specs.Report.{Reporter, metadata, published, policy_published, Line, record_element, counted_rows, lines, report}
 use Rattle.parsing.specs.Reads.{stuck, feed}
 use Rattle.parsing.specs.Claims.{Parts}

@@ -1,18 +1,16 @@
 -- Laws of one octet of a text, an id and a name.
 use mathlib.Core.Path.{◌≡◌, refl, sym, ap, ◌∙◌, subst}
-use mathlib.Core.List.{List, [], ◌∷◌, ◌++◌}
+use mathlib.Core.List.{[], ◌∷◌, ◌++◌}
 use mathlib.Core.Bool.{Bool, true, false, ◌&&◌, ◌||◌, not, false≢true}
 use Prim.Native.Nat.{ℕ, zero, suc, ◌+◌, ◌-◌, ◌≤◌, ◌<◌}
 use native.Mathlib.Omega.{arith}
 use lib.Dec.{eqb, leb, ltb}
-use lib.ListN.{length, drop, get_or}
-use borrow.Author.Tests.{lt-ltb, le-ltb, le-leb, lt-leb, eq-eqb, ne_eqb, leb-true, eqb-true}
-use Rattle.std.specs.Prelude.{if◌then◌else◌}
+use borrow.Author.Tests.{lt-ltb, le-ltb, lt-leb, eq-eqb, ne_eqb, leb-true, eqb-true}
 use Rattle.octets.specs.Octets.{Octets, octets, between, is_letter, is_digit, one_of, any}
 use Rattle.domain.specs.Domain.{domain_octet}
 use Rattle.reporting.specs.FileName.{alphanumeric}
-use Rattle.parsing.specs.Reads.{Reads, done, next, ◌>>=◌, ◌>>◌, octet_where, exactly}
-use Rattle.parsing_steps.specs.Stepping.{Step, on, refused, step_of, takes, then_on, behind, shut}
+use Rattle.parsing.specs.Reads.{done, ◌>>=◌, ◌>>◌, octet_where, exactly}
+use Rattle.parsing_steps.specs.Stepping.{on, refused, step_of, takes, then_on, behind}
 use Rattle.parsing_steps.proofs.StepLaws.{done_on, step_bind, where_no, where_yes, takes_behind, behind_other, behind_past}
 use Rattle.report_form.specs.ReportForm.{Said}
 use Rattle.report_form.specs.code.ReportReading.{first_is as starts, rest_of, among, chosen, one_word, text_octet, reading_entity as entity, text_from, id_from, spelled_octet, name_allows, name_from}

@@ -2,15 +2,15 @@
 use mathlib.Core.Path.{◌≡◌, refl, sym, ap, ◌∙◌}
 use mathlib.Core.List.{List, [], ◌∷◌, ◌++◌}
 use mathlib.Core.Bool.{Bool, true, false}
-use Prim.Native.Nat.{ℕ, zero, suc, ◌-◌, ◌+◌, ◌<◌, ◌≤◌}
+use Prim.Native.Nat.{ℕ, suc, ◌-◌}
 use native.Mathlib.Omega.{arith}
 use lib.Dec.{leb}
 use lib.ListN.{length, length-append}
 use Rattle.rows.specs.Lists.{Reported}
-use Rattle.parsing.specs.Reads.{Reads, done, give, next, ◌>>=◌, ◌>>◌}
+use Rattle.parsing.specs.Reads.{Reads, done, give, ◌>>=◌, ◌>>◌}
 use Rattle.parsing_steps.proofs.StepLaws.{bind_assoc, bind_same, bind_done, bind_on, done_on}
 use Rattle.report_form.specs.ReportForm.{Said, widths}
-use Rattle.report_form.specs.code.ReportReading.{one_word, reading_literal as literal, policy, mode, outcome, text, id, reading_number as number, name, reading_address as address, Disposition, disposition, policy_read as policy_of, dkim_after, spf_after, Item, dkim_item, spf_item, no_item, item, signature, sender, results_from, reading_row as row, records_from, extra_or_id, np_then, policies, PolicyTag as Tag, sp_tag, np_tag, adkim_tag, report_by, reading_report as report}
+use Rattle.report_form.specs.code.ReportReading.{one_word, reading_literal as literal, policy, mode, outcome, text, id, reading_number as number, name, reading_address as address, disposition, dkim_after, spf_after, Item, dkim_item, spf_item, no_item, item, signature, sender, results_from, reading_row as row, records_from, extra_or_id, np_then, policies, PolicyTag as Tag, sp_tag, np_tag, adkim_tag, report_by, reading_report as report}
 use Rattle.report_states.specs.Chain.{Open, with_left, with_begin, with_source, with_count, with_disposition, with_dkim, with_spf, with_author, with_identifiers, with_domain, with_selector, with_outcome, with_signature, with_sender, said_open, c_records, c_record_end, c_results, c_full, c_signature_end, c_signature_outcome, c_selector_end, c_selector, c_signature_domain_end, c_signature_domain, c_signature, c_sender_end, c_sender_outcome, c_sender_domain_end, c_sender_domain, c_sender, after_item, c_item, c_item_start, c_author_end, c_author, c_spf_end, c_spf, c_dkim_end, c_dkim, c_disposition_end, c_disposition, c_count_end, c_count, c_source_end, c_source, c_row, after_more, c_more, c_more_start, c_feedback, c_testing_end, c_testing, c_aspf_end, c_aspf, c_adkim_end, c_adkim, c_np_end, c_np, after_second, c_second, c_sp_end, c_sp, after_tag, c_tags, c_p_end, c_p, c_domain_end, c_domain, c_end_end, c_end, c_begin_end, c_begin, c_id_end, c_id, c_extra_end, c_extra, after_extra, c_extra_or_id, c_email_end, c_email, c_org_end, c_org, c_report, without_open}
 
 -- a row, and the records behind it

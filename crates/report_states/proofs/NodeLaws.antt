@@ -1,26 +1,24 @@
 -- Laws of nodes: where each leads is what the program goes on with.
 use mathlib.Core.Path.{◌≡◌, refl, sym, ap, ◌∙◌}
-use mathlib.Core.List.{List, [], ◌∷◌, ◌++◌}
-use mathlib.Core.Bool.{Bool, true, false, ◌||◌}
-use mathlib.Core.Option.{Option, none as nothing, some as just}
-use Prim.Native.Nat.{ℕ, zero, suc, ◌-◌, ◌+◌, ◌<◌, ◌≤◌}
+use mathlib.Core.List.{List, [], ◌∷◌}
+use mathlib.Core.Bool.{Bool, true, false}
+use Prim.Native.Nat.{ℕ, suc, ◌-◌, ◌<◌}
 use Prim.Native.String.{String}
 use native.Mathlib.Omega.{arith}
 use lib.Dec.{eqb, leb, ltb}
-use lib.ListN.{length, drop, get_or}
+use lib.ListN.{length, drop}
 use borrow.Author.Tests.{ltb-true, ltb-false, eqb-true, eqb-false, le-leb}
 use Rattle.std.specs.Prelude.{if◌then◌else◌}
 use Rattle.octets.specs.Octets.{Octets, octets}
 use Rattle.policy.specs.declared.Policy.{Policy}
 use Rattle.policy.specs.declared.Mode.{Mode}
-use Rattle.rows.specs.Lists.{Reported}
-use Rattle.parsing.specs.Reads.{Reads, done, give, next, ◌>>=◌, ◌>>◌, exactly, octet_where}
-use Rattle.parsing_steps.specs.Stepping.{Step, on, refused, step_of, takes, then_on, behind}
-use Rattle.parsing_steps.proofs.StepLaws.{bind_assoc, bind_same, bind_on, done_on, step_bind, where_no, where_yes, from_first}
+use Rattle.parsing.specs.Reads.{Reads, give, ◌>>=◌, ◌>>◌, exactly, octet_where}
+use Rattle.parsing_steps.specs.Stepping.{on, step_of, takes, then_on, behind}
+use Rattle.parsing_steps.proofs.StepLaws.{bind_on, done_on, step_bind, where_no, where_yes, from_first}
 use Rattle.report_form.specs.ReportForm.{Said, widths}
-use Rattle.report_form.specs.code.ReportReading.{first_is as starts, rest_of, among, chosen, one_word, reading_literal as literal, policy, mode, outcome, disposition, fail_or_pass, only, dkim_after, spf_after, item, Disposition, passed, applied, Item, dkim_item, spf_item, no_item, PolicyTag as Tag, sp_tag, np_tag, adkim_tag, text, id, reading_number as number, name, reading_address as address, address_from, name_from, text_from, id_from, digits_more as number_from, digits_from, next_number, either, dotted, grouped}
-use Rattle.report_states.specs.Chain.{Open, with_left, with_begin, with_source, with_count, with_disposition, with_dkim, with_spf, with_author, with_identifiers, with_domain, with_selector, with_outcome, with_signature, with_sender, said_open, c_records, c_record_end, c_results, c_full, c_signature_end, c_signature_outcome, c_selector_end, c_selector, c_signature_domain_end, c_signature_domain, c_signature, c_sender_end, c_sender_outcome, c_sender_domain_end, c_sender_domain, c_sender, after_item, c_item, c_item_start, c_author_end, c_author, c_spf_end, c_spf, c_dkim_end, c_dkim, c_disposition_end, c_disposition, c_count_end, c_count, c_source_end, c_source, c_row, after_more, c_more, c_more_start, c_feedback, c_testing_end, c_testing, c_aspf_end, c_aspf, c_adkim_end, c_adkim, c_np_end, c_np, after_second, c_second, c_sp_end, c_sp, after_tag, c_tags, c_p_end, c_p, c_domain_end, c_domain, c_end_end, c_end, c_begin_end, c_begin, c_id_end, c_id, c_extra_end, c_extra, after_extra, c_extra_or_id, c_email_end, c_email, c_org_end, c_org, c_report}
-use Rattle.report_states.specs.Standing.{Literal, Word, Text, Number, Name, Node, Goes, Kept, l_report, l_org_end, l_email_end, l_extra_end, l_id_end, l_begin_end, l_end_end, l_domain_end, l_p_end, l_sp_end, l_np_end, l_adkim_end, l_aspf_end, l_testing_end, l_row, l_source_end, l_count_end, l_disposition_end, l_dkim_fail, l_dkim_end, l_spf_fail, l_spf_pass, l_spf_end, l_author_end, l_item_start, l_signature, l_signature_domain_end, l_selector_end, l_signature_end, l_sender, l_sender_domain_end, l_sender_end, l_full, l_record_end, l_more_start, l_feedback, w_extra, w_p, w_tags, w_sp, w_second, w_np, w_adkim, w_aspf, w_testing, w_disposition, w_dkim, w_spf, w_item, w_signature, w_sender, w_more, t_org, t_email, t_extra, n_begin, n_end, n_count, m_domain, m_author, m_signature, m_selector, m_sender, literal_node, word_node, text_node, id_node, number_node, name_node, address_node, last_node, literal_text, words, pick_from, pick, c_dkim_fail, c_dkim_any, c_spf_fail, c_spf_pass, c_spf_any, from_literal, from_word, from_text, from_number, from_name, from, by, handed, arrive, dkim_node, spf_node, results_node, records_node, literal_goes, disposition_numbered, word_goes, text_goes, number_goes, name_goes, entity_rest, in_entity, text_left, id_left, digits_of, number_left, least, most, floor, name_left, part_from, address_left, picked, word_left, left_at, nodes, node_of, start, kept_new}
+use Rattle.report_form.specs.code.ReportReading.{first_is as starts, rest_of, among, chosen, one_word, reading_literal as literal, policy, mode, outcome, disposition, fail_or_pass, only, dkim_after, spf_after, item, Disposition, passed, applied, dkim_item, spf_item, no_item, sp_tag, np_tag, adkim_tag, text, id, reading_number as number, name, reading_address as address, address_from, digits_more as number_from, next_number, either}
+use Rattle.report_states.specs.Chain.{Open, with_begin, with_source, with_count, with_disposition, with_dkim, with_spf, with_outcome, with_signature, said_open, c_records, c_record_end, c_results, c_full, c_signature_end, c_signature_outcome, c_selector_end, c_selector, c_signature_domain_end, c_signature_domain, c_signature, c_sender_end, c_sender_outcome, c_sender_domain_end, c_sender_domain, c_sender, after_item, c_item, c_item_start, c_author_end, c_author, c_spf_end, c_spf, c_dkim_end, c_dkim, c_disposition_end, c_disposition, c_count_end, c_count, c_source_end, c_source, c_row, after_more, c_more, c_more_start, c_feedback, c_testing_end, c_testing, c_aspf_end, c_aspf, c_adkim_end, c_adkim, c_np_end, c_np, after_second, c_second, c_sp_end, c_sp, after_tag, c_tags, c_p_end, c_p, c_domain_end, c_domain, c_end_end, c_end, c_begin_end, c_begin, c_id_end, c_id, c_extra_end, c_extra, after_extra, c_extra_or_id, c_email_end, c_email, c_org_end, c_org, c_report}
+use Rattle.report_states.specs.Standing.{Literal, Word, Text, Number, Name, Node, Goes, l_report, l_org_end, l_email_end, l_extra_end, l_id_end, l_begin_end, l_end_end, l_domain_end, l_p_end, l_sp_end, l_np_end, l_adkim_end, l_aspf_end, l_testing_end, l_row, l_source_end, l_count_end, l_disposition_end, l_dkim_fail, l_dkim_end, l_spf_fail, l_spf_pass, l_spf_end, l_author_end, l_item_start, l_signature, l_signature_domain_end, l_selector_end, l_signature_end, l_sender, l_sender_domain_end, l_sender_end, l_full, l_record_end, l_more_start, l_feedback, w_extra, w_p, w_tags, w_sp, w_second, w_np, w_adkim, w_aspf, w_testing, w_disposition, w_dkim, w_spf, w_item, w_signature, w_sender, w_more, t_org, t_email, t_extra, n_begin, n_end, n_count, m_domain, m_author, m_signature, m_selector, m_sender, literal_node, word_node, text_node, id_node, number_node, name_node, address_node, last_node, literal_text, words, pick_from, pick, c_dkim_fail, c_dkim_any, c_spf_fail, c_spf_pass, c_spf_any, from_literal, from_word, from_text, from_number, from_name, from, by, handed, arrive, dkim_node, spf_node, results_node, records_node, literal_goes, disposition_numbered, word_goes, text_goes, number_goes, name_goes, text_left, id_left, digits_of, number_left, least, most, floor, name_left, part_from, address_left, picked, word_left, left_at, start, kept_new}
 use Rattle.report_states.proofs.ChainLaws.{results_room, results_full, records_room, records_none}
 
 -- ------------------------------------------------------------------ where the program goes by what is known

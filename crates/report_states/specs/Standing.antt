@@ -1,5 +1,5 @@
 -- Where the form is read: a node for each literal, word and value, where each leads, and the program that is left at every place.
-use Rattle.std.specs.Prelude.{List, [], ◌∷◌, ◌++◌, map, Bool, true, false, ℕ, zero, suc, ◌-◌, eqb, leb, ltb, length, drop, get_or, if◌then◌else◌}
+use Rattle.std.specs.Prelude.{List, [], ◌∷◌, ◌++◌, Bool, true, false, ℕ, zero, suc, ◌-◌, eqb, leb, ltb, length, drop, get_or, if◌then◌else◌}
 use Rattle.std.proofs.Math.Option.{Option, none as nothing, some as just}
 use Prim.Native.String.{String}
 use Rattle.octets.specs.Octets.{Octets, octets}
@@ -8,9 +8,9 @@ use Rattle.domain.specs.Domain.{Domain}
 use Rattle.policy.specs.declared.Policy.{Policy}
 use Rattle.rows.specs.Lists.{Reported}
 use Rattle.parsing.specs.Reads.{Reads, done, give, ◌>>=◌, ◌>>◌, exactly}
-use Rattle.parsing_steps.specs.Stepping.{Step, on, refused, behind, shut}
+use Rattle.parsing_steps.specs.Stepping.{Step, on, refused, behind}
 use Rattle.report_form.specs.ReportForm.{Said, widths}
-use Rattle.report_form.specs.code.ReportReading.{first_is, reading_literal, fail_or_pass, only, reading_entity, text_from, id_from, digits_more, name_from, Address, digits_from, address_from, next_number, either, dotted, grouped, Disposition, passed, applied}
+use Rattle.report_form.specs.code.ReportReading.{first_is, reading_literal, fail_or_pass, reading_entity, text_from, id_from, digits_more, name_from, Address, digits_from, address_from, next_number, either, dotted, grouped, Disposition, passed, applied}
 use Rattle.report_states.specs.Chain.{Open, said_open, with_begin, with_count, with_source, with_disposition, with_dkim, with_spf, with_author, with_domain, with_selector, with_outcome, with_signature, with_sender, with_left, c_source, c_id, c_adkim, c_adkim_end, c_aspf, c_aspf_end, c_author, c_author_end, c_begin, c_begin_end, c_count, c_count_end, c_disposition, c_disposition_end, c_dkim_end, c_domain, c_domain_end, c_email, c_email_end, c_end, c_end_end, c_extra, c_extra_end, c_extra_or_id, c_feedback, c_full, c_id_end, c_item, c_item_start, c_more, c_more_start, c_np, c_np_end, c_org, c_org_end, c_p, c_p_end, c_record_end, c_report, c_row, c_second, c_selector, c_selector_end, c_sender, c_sender_domain, c_sender_domain_end, c_sender_end, c_sender_outcome, c_signature, c_signature_domain, c_signature_domain_end, c_signature_end, c_signature_outcome, c_source_end, c_sp, c_sp_end, c_spf_end, c_tags, c_testing, c_testing_end}
 
 pub data Literal : Type 0 where

@@ -1,18 +1,16 @@
 -- Laws of one octet of a number.
-use mathlib.Core.Path.{◌≡◌, refl, sym, ap, ◌∙◌, subst}
+use mathlib.Core.Path.{◌≡◌, refl, sym}
 use mathlib.Core.List.{◌∷◌}
 use mathlib.Core.Bool.{Bool, true, false, ◌&&◌, ◌||◌, not, false≢true}
-use mathlib.Core.Option.{Option, none as nothing, some as just}
-use Prim.Native.Nat.{ℕ, zero, suc, ◌+◌, ◌-◌, ◌*◌, ◌/◌, ◌≤◌, ◌<◌}
+use mathlib.Core.Option.{none as nothing, some as just}
+use Prim.Native.Nat.{ℕ, suc, ◌+◌, ◌-◌, ◌*◌, ◌/◌, ◌≤◌, ◌<◌}
 use native.Mathlib.Omega.{arith}
 use lib.Dec.{eqb, leb}
 use borrow.Author.Tests.{le-leb, lt-leb, leb-true, leb-false, eq-eqb, ne_eqb}
-use Rattle.std.specs.Prelude.{if◌then◌else◌}
 use Rattle.octets.specs.Octets.{Octets, is_digit, between}
 use Rattle.octets.specs.Refusing.{refusal}
-use Rattle.parsing.specs.Reads.{Reads, done, next, ◌>>=◌, stuck, stands, run}
+use Rattle.parsing.specs.Reads.{Reads, ◌>>=◌, stuck, stands, run}
 use Rattle.report_form.specs.code.ReportReading.{digit_refused, number_refused, digits_more as number_from}
-use Rattle.report_steps.specs.declared.Digits.{Digits}
 use Rattle.report_steps.specs.code.Steps.{turn_by, number_turn}
 
 -- ------------------------------------------------------------------ a digit

@@ -1,6 +1,6 @@
 -- `alignment_settle::any_must_walk` meets its contract. The loop's invariant: of all identifiers one must be walked exactly where one of the `more` from `walk` on must.
 use mathlib.Core.Path.{◌≡◌}
-use Prim.Native.Nat.{◌≤◌, ◌+◌, ◌-◌, min}
+use Prim.Native.Nat.{◌≤◌, ◌+◌, min}
 use Rattle.octets.specs.Octets.{any}
 use Rattle.alignment.specs.Alignments.{must_walk}
 use Rattle.alignment_stored.specs.code.Stored.{stored_identifiers}

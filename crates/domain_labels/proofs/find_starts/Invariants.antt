@@ -1,6 +1,6 @@
 -- `domain_labels::find_starts` meets its contract. The loop's invariant: the octets from `i` on are passed, one a round, and their labels counted and placed.
 use mathlib.Core.Path.{◌≡◌}
-use Prim.Native.Nat.{◌≤◌, ◌<◌, ◌+◌, ◌-◌}
+use Prim.Native.Nat.{◌≤◌, ◌<◌, ◌+◌}
 use lib.ListN.{length, drop}
 use Rattle.domain.specs.Domain.{label_count}
 use Rattle.domain_labels.proofs.StartLaws.{Found}

@@ -1,5 +1,4 @@
 -- `force_policies::is_usable` meets its contract: one test for each of `p`, `sp` and `np`.
-use borrow.Author.Tests.{not-true, not-false}
 use Rattle.force_policies.proofs.ForceLaws.{usable_valid}
 use Rattle.force_policies.proofs.is_usable.Goals as goal
 

@@ -1,5 +1,5 @@
 -- `octets_pieces::put_pieces` meets its contract.
-use Rattle.std.proofs.Common.{◌-◌, arith}
+use Rattle.std.proofs.Common.{arith}
 use mathlib.Core.List.{flatten}
 use Rattle.octets_pieces.specs.code.Pieces.{pieces}
 use Rattle.octets_pieces.proofs.PuttingLaws.{puts_nothing, puts_both}

@@ -3,7 +3,6 @@ use lib.ListN.{set, get_or, length-set}
 use Rattle.octets.specs.Octets.{Octets}
 use Rattle.octets.proofs.LentLaws.{one_more, refuses, writes, copied}
 use borrow.Author.Rules.{rules}
-use Prim.Native.Nat.{◌-◌}
 use native.Mathlib.Omega.{arith}
 use Rattle.octets_write.proofs.write.Goals as goal
 

@@ -1,11 +1,11 @@
 use mathlib.Core.Path.{refl, ap₂, sym, ◌∙◌}
 use lib.ListN.{set, get_or, length-set}
-use Rattle.octets.specs.Octets.{Octets, lower, lower_octet}
+use Rattle.octets.specs.Octets.{Octets, lower}
 use Rattle.octets.proofs.TextLaws.{lower_length, lower_at}
 use Rattle.octets.proofs.LentLaws.{one_more, refuses, writes, copied}
 use borrow.Author.Rules.{rules}
 use mathlib.Core.Path.{◌≡◌}
-use Prim.Native.Nat.{ℕ, ◌<◌, ◌-◌}
+use Prim.Native.Nat.{ℕ, ◌<◌}
 use native.Mathlib.Omega.{arith}
 use lib.ListN.{length}
 use Rattle.octets_write.proofs.write_lower.Goals as goal

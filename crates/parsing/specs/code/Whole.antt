@@ -1,10 +1,10 @@
 -- What a program reads whole, and what that says of the place of a refusal.
 use Rattle.std.specs.Prelude.{◌≡◌, List, [], ◌∷◌, ◌++◌, ◌⊎◌, ℕ, suc, ◌<◌, length, take}
-use Rattle.std.proofs.Math.Option.{Option, none as nothing}
+use Rattle.std.proofs.Math.Option.{none as nothing}
 use Rattle.octets.specs.Octets.{Octets}
-use Rattle.octets.specs.Refusing.{OrRefused, ok, not_ok, refusal}
+use Rattle.octets.specs.Refusing.{ok, not_ok, refusal}
 use Rattle.octets.specs.declared.Refusal.{Refusal}
-use Rattle.parsing.specs.Reads.{Reads, done, give, next, stuck, Fed, run, ended}
+use Rattle.parsing.specs.Reads.{Reads, done, give, next, stuck, run, ended}
 
 -- a text that a program reads whole, the rows that it hands out, and its value
 unfoldable pub Whole : {R A : Type 0} → Reads R A → Octets → List R → A → Type 0

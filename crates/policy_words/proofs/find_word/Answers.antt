@@ -1,7 +1,6 @@
 -- `policy_words::find_word` meets its contract: no word that was passed is the text.
 use mathlib.Core.Path.{sym, ◌∙◌}
 use mathlib.Core.List.{flatten}
-use Prim.Native.Nat.{◌-◌}
 use native.Mathlib.Omega.{arith}
 use Rattle.octets.specs.Octets.{octets}
 use Rattle.octets_pieces.specs.code.Pieces.{starts}

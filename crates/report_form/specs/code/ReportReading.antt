@@ -1,5 +1,5 @@
 -- Reading an aggregate report (document 02, Ask 10): the program that reads Ask 9's form.
-use Rattle.std.specs.Prelude.{List, [], ◌∷◌, ◌++◌, Bool, true, false, ◌&&◌, ◌||◌, not, ℕ, zero, suc, ◌+◌, ◌-◌, ◌*◌, ◌/◌, ◌%◌, eqb, leb, ltb, length, if◌then◌else◌}
+use Rattle.std.specs.Prelude.{List, [], ◌∷◌, ◌++◌, Bool, true, false, ◌&&◌, ◌||◌, not, ℕ, zero, suc, ◌+◌, ◌-◌, ◌*◌, eqb, leb, ltb, length, if◌then◌else◌}
 use Rattle.std.proofs.Math.Option.{Option, none as nothing, some as just}
 use Prim.Native.String.{String}
 use Rattle.octets.specs.Octets.{Octets, octets, same, between, is_digit, one_of}
@@ -8,7 +8,7 @@ use Rattle.domain.specs.Domain.{Domain, domain_octet}
 use Rattle.reporting.specs.FileName.{alphanumeric}
 use Rattle.policy.specs.declared.Policy.{Policy}
 use Rattle.policy.specs.declared.Mode.{Mode}
-use Rattle.parsing.specs.Reads.{Reads, done, give, next, ◌>>=◌, ◌>>◌, octet_where, exactly, Reader, open_at, Fed, run, ended}
+use Rattle.parsing.specs.Reads.{Reads, done, give, next, ◌>>=◌, ◌>>◌, octet_where, exactly, Reader, open_at, run, ended}
 use Rattle.rows.specs.Lists.{Reported}
 use Rattle.report_form.specs.ReportForm.{Said, mapped, group_octets, Widths, widths}
 

@@ -1,8 +1,6 @@
 -- `text_front::front_length` meets its contract: every octet that was passed is of the class.
 use mathlib.Core.Path.{sym, ◌∙◌}
-use Prim.Native.Nat.{◌-◌}
 use native.Mathlib.Omega.{arith}
-use borrow.Author.Tests.{not-true, not-false}
 use Rattle.text_class.specs.code.Classes.{in_class}
 use Rattle.octets.proofs.PartLaws.{one_more, ends_before, ends_with}
 use Rattle.text_front.proofs.front_length.Goals as goal

@@ -3,7 +3,6 @@ use mathlib.Core.Path.{ap, sym, ◌∙◌}
 use native.Mathlib.Omega.{arith}
 use lib.Seq.{take-length}
 use borrow.Author.Rules.{rules}
-use borrow.Author.Tests.{not-true, not-false}
 use Rattle.octets.specs.Octets.{trim_end}
 use Rattle.octets.proofs.PartLaws.{cut, kept, none_kept}
 use Rattle.text_front.proofs.trim_end.Goals as goal

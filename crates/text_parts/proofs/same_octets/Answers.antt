@@ -1,6 +1,5 @@
 -- `text_parts::same_octets` meets its contract: the octets that were passed are equal.
 use mathlib.Core.Path.{refl, sym, ◌∙◌}
-use Prim.Native.Nat.{◌-◌}
 use native.Mathlib.Omega.{arith}
 use borrow.Author.Rules.{rules}
 use Rattle.octets.proofs.TextLaws.{same_uneven, same_differ, same_agree, same_ended}

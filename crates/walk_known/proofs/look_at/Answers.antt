@@ -1,6 +1,5 @@
 -- `walk_known::look_at` meets its contract.
 use mathlib.Core.Path.{sym, ◌∙◌}
-use borrow.Author.Tests.{not-true, not-false}
 use lib.ListN.{drop}
 use Rattle.octets.proofs.PartLaws.{part_rest}
 use Rattle.walk_known.specs.code.Kept.{kept_answers, known}

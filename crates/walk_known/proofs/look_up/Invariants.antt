@@ -1,6 +1,6 @@
 -- `walk_known::look_up` meets its contract. The loop's invariant: what is known by all answers is known by the `more` ones from `at` on.
 use mathlib.Core.Path.{◌≡◌}
-use Prim.Native.Nat.{◌-◌, ◌≤◌}
+use Prim.Native.Nat.{◌≤◌}
 use lib.ListN.{length, drop}
 use Rattle.domain.specs.Domain.{asked_name}
 use Rattle.walk_known.specs.code.Kept.{known}

@@ -1,6 +1,5 @@
 -- `walk_step::reach_from` meets its contract. The loop's invariant: the whole goes as far as what is left, after this last record.
 use mathlib.Core.Path.{◌≡◌}
-use Prim.Native.Nat.{◌-◌}
 use Rattle.walk_known.specs.code.Kept.{kept_answers}
 use Rattle.walk_progress.specs.code.Summary.{found_in}
 use Rattle.walk_step.specs.code.Steps.{reach_placed}
