@@ -224,6 +224,15 @@ const RUN: &[(&str, i32)] = &[
 const NOT_RUN: &[(&str, &str)] = &[
     ("bash .ci/run", "the gate runs this test"),
     ("./library", "it proves; the gate runs it before these tests"),
+    ("rt ci", "it proves; the gate runs it before these tests"),
+    ("rt ci NAME", "it proves; the gate is that of all crates"),
+    ("rt check", "it proves; the gate proves every crate"),
+    ("rt run", "it proves; the gate runs every program"),
+    ("rt must-fail NAME", "it proves; the gate tries every edit"),
+    (
+        "rt version",
+        "it names the kit at hand, which need not be the one that the page names",
+    ),
     (
         "cp include/waslidhaj.h /usr/local/include/ && cp target/lib/libwaslidhaj.a /usr/local/lib/",
         "it writes to the system's own folders",
