@@ -3,24 +3,21 @@ use mathlib.Core.Path.{◌≡◌, refl, sym, ap, ◌∙◌, subst}
 use mathlib.Core.List.{List, [], ◌∷◌, ◌++◌}
 use mathlib.Core.Logic.{◌⊎◌, inl, inr}
 use mathlib.Core.Bool.{Bool, true, false, ◌&&◌, ◌||◌, not, false≢true}
-use Prim.Native.Nat.{ℕ, zero, suc, ◌+◌, ◌-◌, ◌*◌, ◌≤◌, ◌<◌}
+use Prim.Native.Nat.{ℕ, zero, suc, ◌+◌, ◌*◌, ◌≤◌, ◌<◌}
 use native.Mathlib.Omega.{arith}
 use lib.Dec.{eqb, leb, ltb}
-use lib.ListN.{length, length-append, get_or}
+use lib.ListN.{length, length-append}
 use borrow.Author.Tests.{lt-ltb, le-ltb, le-leb, lt-leb, eq-eqb, ne_eqb, leb-true, ltb-true, eqb-true, eqb-false}
 use Rattle.std.specs.Prelude.{if◌then◌else◌}
-use Rattle.octets.specs.Octets.{Octets, is_digit, between}
-use Rattle.parsing.specs.Reads.{Reads, done}
-use Rattle.parsing_steps.specs.Stepping.{Step, on, refused, step_of}
+use Rattle.octets.specs.Octets.{is_digit, between}
+use Rattle.parsing_steps.specs.Stepping.{on, step_of}
 use Rattle.parsing_steps.proofs.StepLaws.{where_no}
-use Rattle.report_form.specs.ReportForm.{Said}
-use Rattle.report_form.specs.code.ReportReading.{dotted, grouped, can_be_dotted, can_be_grouped, digit_value, lower_hex, goes_on_dotted, goes_on_grouped, is_last, ends_number, with_digit, next_number, source_of}
+use Rattle.report_form.specs.code.ReportReading.{grouped, can_be_dotted, can_be_grouped, digit_value, lower_hex, goes_on_dotted, goes_on_grouped, is_last, ends_number, with_digit, next_number}
 use Rattle.report_states.specs.Standing.{address_left}
 use Rattle.report_address.specs.code.Addresses.{kind_of, address_of, only_zero_in, dotted_on, grouped_on, ends_in}
 use Rattle.report_address.proofs.AddressTests.{dotted_is, grouped_is, ends_is}
 use Rattle.report_address.proofs.AddressSteps.{refused_full, refused_digit, ended_less, next_dot, next_colon, digit_more}
 use Rattle.report_source.specs.code.Sources.{limit, fits_kind, is_sound, no_octet, source_left, five_zeros, source_turn, refused_turn, grown, number_ended, Sources, number_told, Turns}
-use Rattle.report_source.specs.declared.SourceTurn.{SourceTurn}
 
 both : (a b : Bool) → (a && b) ≡ true → (a ≡ true) × (b ≡ true)
 both true b e = (refl, e)

@@ -1,6 +1,6 @@
 -- What an octet says at a place of each kind: the program that is left there steps as its leaf does.
 use mathlib.Core.Path.{◌≡◌, refl, sym, ap, ◌∙◌}
-use mathlib.Core.List.{List, [], ◌∷◌, ◌++◌}
+use mathlib.Core.List.{[], ◌∷◌, ◌++◌}
 use mathlib.Core.Bool.{Bool, true, false, false≢true}
 use Prim.Native.Nat.{ℕ, zero, suc, ◌-◌, ◌+◌}
 use lib.Dec.{eqb, leb, ltb}
@@ -12,7 +12,7 @@ use Rattle.parsing_steps.specs.Stepping.{Step, on, refused, step_of, takes, then
 use Rattle.parsing_steps.proofs.StepLaws.{step_bind, done_on, takes_behind}
 use Rattle.report_form.specs.ReportForm.{Said}
 use Rattle.report_form.specs.code.ReportReading.{reading_entity as entity, one_word, text_from, id_from, digits_more as number_from, name_allows, name_from}
-use Rattle.report_states.specs.Standing.{Place, Literal, Word, Text, Number, Name, literal_node, word_node, text_node, id_node, number_node, name_node, Goes, Kept, arrive, literal_text, words, literal_goes, word_goes, text_goes, number_goes, name_goes, from_literal, l_id_end, entity_rest, in_entity, text_left, id_left, digits_of, number_left, least, most, floor, name_left, word_left, left_at}
+use Rattle.report_states.specs.Standing.{Place, Literal, Word, Text, Number, Name, literal_node, word_node, text_node, id_node, number_node, name_node, Kept, arrive, literal_text, words, literal_goes, word_goes, text_goes, number_goes, name_goes, from_literal, l_id_end, entity_rest, in_entity, text_left, id_left, number_left, least, most, floor, name_left, word_left, left_at}
 use Rattle.report_leaves.specs.code.Leaves.{meant, Names}
 
 -- 0 the program goes on so, 1 so, else refused with that number

@@ -6,13 +6,13 @@ use Prim.Native.Nat.{ℕ, zero, suc, ◌+◌, ◌-◌, ◌*◌, ◌/◌, ◌≤�
 use native.Mathlib.Omega.{arith}
 use lib.Dec.{eqb, leb}
 use lib.ListN.{length}
-use borrow.Author.Tests.{leb-true, eqb-true, eqb-false}
+use borrow.Author.Tests.{leb-true, eqb-false}
 use Rattle.std.specs.Prelude.{if◌then◌else◌}
 use Rattle.octets.specs.Octets.{is_digit, between}
 use Rattle.octets.specs.Decimal.{decimal}
 use Rattle.octets.proofs.DecimalLaws.{length_one, length_more}
-use Rattle.parsing.specs.Reads.{Reads, done, next}
-use Rattle.parsing_steps.specs.Stepping.{Step, on, refused, step_of}
+use Rattle.parsing.specs.Reads.{done}
+use Rattle.parsing_steps.specs.Stepping.{on, refused, step_of}
 use Rattle.report_form.specs.ReportForm.{Said}
 use Rattle.report_form.specs.code.ReportReading.{digit_refused, number_refused, digits_more as number_from}
 use Rattle.report_form.proofs.NumberLaws.{decimal_few}

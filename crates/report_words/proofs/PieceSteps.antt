@@ -2,11 +2,8 @@
 use Rattle.std.proofs.Common.{◌≡◌, ℕ, zero, suc, ◌+◌, ◌-◌, ◌%◌, ◌<◌, ◌≤◌, Bool, true, false, eqb, List, [], ◌∷◌, map, length, get_or, take, sym, refl, ap, ◌∙◌, subst, arith, eq-eqb, ne_eqb}
 use mathlib.Core.List.{flatten}
 use Prim.Native.String.{String}
-use mathlib.Core.Option.{none as nothing, some as just}
-use Rattle.std.specs.Prelude.{if◌then◌else◌}
 use Rattle.octets.specs.Octets.{Octets, octets}
-use Rattle.parsing.specs.Reads.{Reads, done}
-use Rattle.parsing_steps.specs.Stepping.{Step, on, refused, step_of, behind}
+use Rattle.parsing_steps.specs.Stepping.{on, step_of, behind}
 use Rattle.parsing_steps.proofs.StepLaws.{behind_other, behind_past, behind_next, behind_last}
 use Rattle.octets_pieces.specs.code.Pieces.{piece, starts as starts_of}
 use Rattle.octets_pieces.proofs.PieceLaws.{word_piece}

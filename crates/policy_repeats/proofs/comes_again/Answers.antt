@@ -1,6 +1,5 @@
 -- `policy_repeats::comes_again` meets its contract: whether any name is stored is whether any is that is left.
 use mathlib.Core.Path.{ap, sym, ◌∙◌}
-use Prim.Native.Nat.{◌-◌}
 use native.Mathlib.Omega.{arith}
 use Rattle.octets.specs.Octets.{any}
 use Rattle.policy_repeats.specs.code.Storing.{names_left, Keyed, is_stored}

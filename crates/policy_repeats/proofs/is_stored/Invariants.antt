@@ -1,6 +1,6 @@
 -- `policy_repeats::is_stored` meets its contract: names of other keys are other names.
 use mathlib.Core.Path.{◌≡◌}
-use Prim.Native.Nat.{◌≤◌, ◌-◌}
+use Prim.Native.Nat.{◌≤◌}
 use Rattle.policy_repeats.specs.code.Storing.{name_at, is_stored}
 use Rattle.policy_repeats.proofs.is_stored.Given as goal
 

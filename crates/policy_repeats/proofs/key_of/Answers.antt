@@ -1,6 +1,5 @@
 -- `policy_repeats::key_of` meets its contract: the key of the whole is that of what is left.
 use mathlib.Core.Path.{refl, sym, ◌∙◌}
-use Prim.Native.Nat.{◌-◌}
 use native.Mathlib.Nat.{mod-lt}
 use native.Mathlib.Omega.{arith}
 use Rattle.policy_repeats.specs.code.Storing.{prime, key_of}

@@ -1,7 +1,6 @@
 -- `policy_repeats::next_unknown` meets its contract: the names of the whole are those of what is left.
 use mathlib.Core.Bool.{not, true, false}
 use mathlib.Core.Path.{◌≡◌, refl, ap, sym, ◌∙◌}
-use Prim.Native.Nat.{◌-◌}
 use native.Mathlib.Omega.{arith}
 use lib.Dec.{eqb}
 use lib.ListN.{drop}

@@ -1,6 +1,6 @@
 -- `policy_repeats::repeats_unknown` meets its contract: whether a name repeats is what the names stored and those left say together.
 use mathlib.Core.Path.{◌≡◌, sym, ◌∙◌}
-use Prim.Native.Nat.{◌+◌, ◌-◌}
+use Prim.Native.Nat.{◌+◌}
 use native.Mathlib.Omega.{arith}
 use Rattle.policy_repeats.specs.code.Storing.{names_left}
 use Rattle.policy_repeats.proofs.UnknownLaws.{goes_on}

@@ -5,8 +5,7 @@ use Rattle.verdict_ahead.proofs.look_from.Goals as goal
 
 pub returns-then-is_given : goal.returns-then-is_given
 returns-then-is_given c =
-    let x = c.p-in-Identifier-1.given.0 in
-    rw c.in-Identifier.is (looks_identifier c.args.t x.1.1.0 c.target_place-then-is_given.result c.target_place-then-is_given.ensures x.0 x.1.0 (rw c.if-is_given.true at (sym c.is_given.ensures)))
+    rw c.in-Identifier.is (looks_identifier c.args.t c.in-Identifier.stop c.target_place-then-is_given.result c.target_place-then-is_given.ensures c.in-Identifier.ruling c.in-Identifier.walk (rw c.if-is_given.true at (sym c.is_given.ensures)))
 
 pub returns-in-OwnName : goal.returns-in-OwnName
 returns-in-OwnName c = rw c.in-OwnName.is (looks_own c.args.t)
@@ -21,8 +20,7 @@ returns-in-Completing c =
 
 pub returns-else-is_given : goal.returns-else-is_given
 returns-else-is_given c =
-    let x = c.p-in-Identifier-1.given.0 in
-    rw c.in-Identifier.is (looks_past c.args.t x.0 x.1.0 x.1.1.0 (rw c.if-is_given.false at (sym c.is_given.ensures)))
+    rw c.in-Identifier.is (looks_past c.args.t c.in-Identifier.ruling c.in-Identifier.walk c.in-Identifier.stop (rw c.if-is_given.false at (sym c.is_given.ensures)))
 
 pub returns-in-NotKnown : goal.returns-in-NotKnown
 returns-in-NotKnown c = rw c.in-NotKnown.is (looks_unknown c.args.t)

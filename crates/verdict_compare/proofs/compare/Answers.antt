@@ -51,16 +51,15 @@ loop-walk-init c = (omega (arith, c.smaller-last.ensures), omega arith, omega (a
 pub returns-in-Stops : goal.returns-in-Stops
 unfolding given_count
 returns-in-Stops c =
-    let stop = c.stop-1.given in
     let m = c.loop-walk in
     let last = c.smaller-last.ensures in
     let a = c.args in
     let β = kept_answers a.domains.now a.count a.kept.now in
     rw (begins-at (goal.at.returns-in-Stops c).After-smaller-walk, c.identifier.ensures)
     (record {
-      place = stopped a.domains.now a.numbers.now a.t β a.ruling m.stored m.walk m.invariant.1 (omega (arith, last)) stop.0.0
-          ∙ sym (rw stop.1 at (after (goal.at.returns-in-Stops c).After-pass_at a.t last));
-      only = λ z. stopped_only a.domains.now a.numbers.now a.t β a.ruling m.stored m.walk m.invariant.1 (omega (arith, last)) stop.0.0 (m.invariant.4 z);
+      place = stopped a.domains.now a.numbers.now a.t β a.ruling m.stored m.walk m.invariant.1 (omega (arith, last)) c.in-Stops.stop
+          ∙ sym (rw c.in-Stops.is at (after (goal.at.returns-in-Stops c).After-pass_at a.t last));
+      only = λ z. stopped_only a.domains.now a.numbers.now a.t β a.ruling m.stored m.walk m.invariant.1 (omega (arith, last)) c.in-Stops.stop (m.invariant.4 z);
     })
 
 pub store-requires : goal.store-requires
@@ -70,16 +69,15 @@ pub loop-walk-preserved : goal.loop-walk-preserved
 loop-walk-preserved c =
     let m = c.loop-walk in
     let a = c.args in
-    let β = kept_answers a.domains.now a.count a.kept.now in
-    let number = c.number-1.given in (
+    let β = kept_answers a.domains.now a.count a.kept.now in (
       m.invariant.0,
       omega arith,
       omega arith,
-      m.invariant.3 ∙ sym (ap (λ (l : List ℕ). get_or l 0 0) c.store.ensures ∙ get_or-set_other m.stored m.walk 0 number.0.0 0 (λ f. omega (arith, m.invariant.1))),
-      λ z. subst (NoneFrom (m.walk + 1)) (sym c.store.ensures) (none_set m.stored m.walk number.0.0 (m.invariant.4 z)),
+      m.invariant.3 ∙ sym (ap (λ (l : List ℕ). get_or l 0 0) c.store.ensures ∙ get_or-set_other m.stored m.walk 0 c.in-Passes.number 0 (λ f. omega (arith, m.invariant.1))),
+      λ z. subst (NoneFrom (m.walk + 1)) (sym c.store.ensures) (none_set m.stored m.walk c.in-Passes.number (m.invariant.4 z)),
       λ t e.
-          rw number.1 at (after (goal.at.loop-walk-preserved c).After-pass_at t e)
-          ∙ sym (passed_on a.domains.now a.numbers.now t β a.ruling m.stored m.walk m.invariant.1 (omega (arith, c.store-arg-1.given.0.1)) number.0.0)
+          rw c.in-Passes.is at (after (goal.at.loop-walk-preserved c).After-pass_at t e)
+          ∙ sym (passed_on a.domains.now a.numbers.now t β a.ruling m.stored m.walk m.invariant.1 (omega (arith, c.store-arg-1.given.0.1)) c.in-Passes.number)
           ∙ ap (λ (l : List ℕ). comparing a.domains.now a.numbers.now t β a.ruling l (m.walk + 1)) (sym c.store.ensures),
     )
 

@@ -59,14 +59,13 @@ pub returns-in-Stops : goal.returns-in-Stops
 returns-in-Stops c =
     let a = c.args in
     let β = kept_answers a.domains.now a.count a.kept.now in
-    let stop = c.stop-1.given in
     record {
       given = λ h k. compares_after a.domains.now a.numbers.now a.t β a.ruling a.stored.now a.walk a.w _ _
           (rw c.identifier.ensures
           (record {
-            place = stopped a.domains.now a.numbers.now a.t β a.ruling a.stored.now a.walk h k stop.0.0
-                ∙ ap (after_walk a.domains.now a.numbers.now a.t β a.ruling a.stored.now a.walk) (rw stop.1 at (own (goal.at.returns-in-Stops c).After-pass));
-            only = λ z. stopped_only a.domains.now a.numbers.now a.t β a.ruling a.stored.now a.walk h k stop.0.0 z;
+            place = stopped a.domains.now a.numbers.now a.t β a.ruling a.stored.now a.walk h k c.in-Stops.stop
+                ∙ ap (after_walk a.domains.now a.numbers.now a.t β a.ruling a.stored.now a.walk) (rw c.in-Stops.is at (own (goal.at.returns-in-Stops c).After-pass));
+            only = λ z. stopped_only a.domains.now a.numbers.now a.t β a.ruling a.stored.now a.walk h k c.in-Stops.stop z;
           }));
       none = λ h. absurd (first (goal.at.returns-in-Stops c).Else-smaller-walk h);
       past = λ h. absurd (last (goal.at.returns-in-Stops c).Else-smaller-walk h);
@@ -76,17 +75,16 @@ pub returns-in-Passes : goal.returns-in-Passes
 returns-in-Passes c =
     let a = c.args in
     let β = kept_answers a.domains.now a.count a.kept.now in
-    let number = c.number-1.given in
     record {
       given = λ h k.
-          let on = compares_same a.domains.now a.numbers.now a.t β a.ruling _ _ _ {c = a.walk + 1} c.compare.ensures (omega (arith, k)) in
+          let on = compares_same a.domains.now a.numbers.now a.t β a.ruling _ _ _ {v = a.walk + 1} c.compare.ensures (omega (arith, k)) in
           compares_after a.domains.now a.numbers.now a.t β a.ruling a.stored.now a.walk a.w _ _
           (record {
             place = on.place
                 ∙ ap (λ (l : List ℕ). comparing a.domains.now a.numbers.now a.t β a.ruling l (a.walk + 1)) c.store.ensures
-                ∙ passed_on a.domains.now a.numbers.now a.t β a.ruling a.stored.now a.walk h (omega (arith, c.store-arg-1.given.0.1, c.if-smaller-walk.false, c.smaller.ensures)) number.0.0
-                ∙ ap (after_walk a.domains.now a.numbers.now a.t β a.ruling a.stored.now a.walk) (rw number.1 at (own (goal.at.returns-in-Passes c).After-pass));
-            only = λ z. on.only (subst (NoneFrom (a.walk + 1)) (sym c.store.ensures) (none_set a.stored.now a.walk number.0.0 z));
+                ∙ passed_on a.domains.now a.numbers.now a.t β a.ruling a.stored.now a.walk h (omega (arith, c.store-arg-1.given.0.1, c.if-smaller-walk.false, c.smaller.ensures)) c.in-Passes.number
+                ∙ ap (after_walk a.domains.now a.numbers.now a.t β a.ruling a.stored.now a.walk) (rw c.in-Passes.is at (own (goal.at.returns-in-Passes c).After-pass));
+            only = λ z. on.only (subst (NoneFrom (a.walk + 1)) (sym c.store.ensures) (none_set a.stored.now a.walk c.in-Passes.number z));
           });
       none = λ h. absurd (first (goal.at.returns-in-Passes c).Else-smaller-walk h);
       past = λ h. absurd (last (goal.at.returns-in-Passes c).Else-smaller-walk h);
