@@ -4,7 +4,7 @@
 ghost use Rattle.std.specs.Prelude.{◌≡◌, [], ◌+◌, min, if◌then◌else◌};
 ghost use Rattle.octets.specs.Octets.{is_set};
 ghost use Rattle.asking.specs.Asking.{given};
-ghost use Rattle.address.specs.Checks.{next, result};
+ghost use Rattle.address.specs.Checks.{next, result as the_result};
 ghost use Rattle.address_check.specs.Promises.{DoesCheck};
 ghost use Rattle.address_check.specs.code.View.{step_back, resulting_back};
 
@@ -17,7 +17,7 @@ const MOST_REPLIES: usize = 16;
 
 // How many names were answered: those of the walks, and the confirming name.
 fn count_names(count: usize, confirmed: u8) -> usize
-    ensures* { λ r. ⌜ r ≡ min count 16 + (if is_set confirmed then 1 else 0) ⌝ }
+    ensures { result ≡ min count 16 + (if is_set confirmed then 1 else 0) }
 {
     let walked = text_parts::smaller(count, MOST_REPLIES);
     if confirmed == 0 {
@@ -28,7 +28,7 @@ fn count_names(count: usize, confirmed: u8) -> usize
 
 // The next step.
 pub fn next(c: Check) -> CheckStepped
-    ensures* { λ r. ⌜ DoesCheck c next r.check (given (step_back r.check r.step) []) ⌝ }
+    ensures { DoesCheck c next result.check (given (step_back result.check result.step) []) }
 {
     if c.started == 0 {
         return CheckStepped {
@@ -61,7 +61,7 @@ pub fn next(c: Check) -> CheckStepped
 
 // The result.
 pub fn result(c: Check) -> CheckResulting
-    ensures* { λ r. ⌜ DoesCheck c result c (given (resulting_back r) []) ⌝ }
+    ensures { DoesCheck c the_result c (given (resulting_back result) []) }
 {
     if c.started == 0 {
         return CheckResulting::Refused(Refusal {

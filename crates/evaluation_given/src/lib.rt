@@ -43,7 +43,7 @@ fn number_verdict(v: Verdict) -> VerdictNumbers
 
 // Numbers of a kind, with nothing more.
 fn blank(kind: u8) -> GivenNumbers
-    ensures* { λ r. ⌜ r ≡ record { kind = kind; walk = 0; place = record { 0 = 0 }; length = 0; verdict = record { result = 3; policy = 3; disposition = 3; begin = record { 0 = 0 }; alignments = 0; count = 0 }; refusal = record { number = 0; place = 0 } } ⌝ }
+    ensures { result ≡ record { kind = kind; walk = 0; place = record { 0 = 0 }; length = 0; verdict = record { result = 3; policy = 3; disposition = 3; begin = record { 0 = 0 }; alignments = 0; count = 0 }; refusal = record { number = 0; place = 0 } } }
 {
     GivenNumbers {
         kind,

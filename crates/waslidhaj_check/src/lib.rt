@@ -5,7 +5,7 @@
 ghost use Rattle.std.specs.Prelude.{◌≡◌, []};
 ghost use Rattle.octets.specs.Lent.{written, left, written_numbers};
 ghost use Rattle.txt.specs.Answers.{status_numbered};
-ghost use Rattle.address.specs.Checks.{start, next, answer, result};
+ghost use Rattle.address.specs.Checks.{start, next, answer, result as the_result};
 ghost use Rattle.address_check.specs.Numbers.{check_name};
 ghost use Rattle.address_check.specs.Promises.{Gives};
 
@@ -20,7 +20,7 @@ pub extern "C" fn waslidhaj_check_start_by_value(
     policy: &[u8],
     entry: &[u8],
 ) -> CheckCalled
-    ensures* { λ r. ⌜ Gives check (start policy.now entry.now) r [] ⌝ }
+    ensures { Gives check (start policy.now entry.now) result [] }
 {
     let changed = address_start::start(check, policy, entry);
     let after = changed.check;
@@ -34,7 +34,7 @@ pub extern "C" fn waslidhaj_check_start_by_value(
 // The next step.
 #[unsafe(no_mangle)]
 pub extern "C" fn waslidhaj_check_next_by_value(check: Check) -> CheckCalled
-    ensures* { λ r. ⌜ Gives check next r [] ⌝ }
+    ensures { Gives check next result [] }
 {
     let stepped = address_next::next(check);
     let after = stepped.check;
@@ -54,7 +54,7 @@ pub extern "C" fn waslidhaj_check_answer_by_value(
     bytes: &[u8],
     scratch: &mut [u8],
 ) -> CheckCalled
-    ensures* { λ r. ⌜ Gives check (answer name.now (status_numbered status) bytes.now scratch.old) r scratch.new ⌝ }
+    ensures { Gives check (answer name.now (status_numbered status) bytes.now scratch.old) result scratch.new }
 {
     let kind = txt_codes::read_status(status);
     let changed = address_answer::answer(check, name, kind, bytes, scratch);
@@ -69,7 +69,7 @@ pub extern "C" fn waslidhaj_check_answer_by_value(
 // The result.
 #[unsafe(no_mangle)]
 pub extern "C" fn waslidhaj_check_result_by_value(check: Check) -> CheckGiven
-    ensures* { λ r. ⌜ Gives check result (record { check = check; given = r }) [] ⌝ }
+    ensures { Gives check the_result (record { check = check; given = result }) [] }
 {
     address_given::number_resulting(address_next::result(check))
 }
@@ -82,7 +82,7 @@ pub extern "C" fn waslidhaj_check_name_by_value(
     place: Octet,
     out: &mut [u8],
 ) -> WrittenNumbers
-    ensures* { λ r. ⌜ (r ≡ written_numbers (written (check_name check walk place) out.old)) × (out.new ≡ left (check_name check walk place) out.old) ⌝ }
+    ensures { (result ≡ written_numbers (written (check_name check walk place) out.old)) × (out.new ≡ left (check_name check walk place) out.old) }
 {
     let written = address_names::write_name(&check.domains, &check.numbers, walk, place, out);
     octets_write::number_written(written)

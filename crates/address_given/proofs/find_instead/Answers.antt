@@ -1,5 +1,5 @@
 -- `address_given::find_instead` meets its contract.
-use borrow.Author.Rules.{rules}
+use borrow.Enum.Refused.{opened}
 use mathlib.Core.Path.{◌≡◌, refl}
 use mathlib.Core.List.{[], ◌∷◌}
 use mathlib.Core.Logic.{⊎_elim}
@@ -9,8 +9,7 @@ use denote.Enum.Declared.{tag_of}
 use Rattle.address.specs.declared.Agreement.{Agreement}
 use Rattle.address.specs.contracts.Agreement as agreements
 use Rattle.address_check.specs.Numbers.{instead_of}
-use Rattle.address_given.proofs.find_instead.Statement.{statement}
-use Rattle.address_given.proofs.find_instead.Tie as tie
+use Rattle.address_given.proofs.find_instead.Goals as goal
 
 -- no other agreement has a place
 elsewhere : (a : Agreement) → OneOf (0 ∷ 1 ∷ 2 ∷ 3 ∷ []) (tag_of agreements.the_type a) → record { begin = 0; length = 0 } ≡ instead_of a
@@ -21,16 +20,10 @@ elsewhere Agreement.Inside h = refl
 elsewhere Agreement.Confirmed h = refl
 elsewhere (Agreement.Replaced b) h = absurd (⊎_elim (λ z. omega arith) (⊎_elim (λ z. omega arith) (⊎_elim (λ z. omega arith) (λ z. omega arith))) h)
 
-enum-known-a : tie.Need-enum-known-a
-enum-known-a c = search rules
-
-returns : tie.Need-returns
+pub returns-in_default : goal.returns-in_default
 unfolding instead_of
-returns c = elsewhere c.before.args.a c.match.keys2
+returns-in_default c = elsewhere c.args.a (opened c.in_default.in_default-own.keys2)
 
-returns-2 : tie.Need-returns-2
+pub returns : goal.returns
 unfolding instead_of
-returns-2 c = rw c.before.a.given.1
-
-pub find-instead-spec : {M : Type 1} → statement M
-find-instead-spec = tie.close (tie.spec enum-known-a returns returns-2)
+returns c = rw c.in-Replaced.is
