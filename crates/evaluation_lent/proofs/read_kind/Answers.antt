@@ -1,0 +1,37 @@
+-- `evaluation_lent::read_kind` meets its contract.
+use Rattle.evaluation_numbers.specs.Numbers.{place_kind_in}
+use Rattle.evaluation_numbers.proofs.SaidLaws.{judged_in}
+use Rattle.evaluation_lent.proofs.read_kind.Goals as goal
+
+pub returns-in-0 : goal.returns-in-0
+unfolding place_kind_in
+returns-in-0 c = rw c.in-0.is
+
+pub returns-in-1 : goal.returns-in-1
+unfolding place_kind_in
+returns-in-1 c = rw c.in-1.is
+
+pub returns-in-2 : goal.returns-in-2
+unfolding place_kind_in
+returns-in-2 c = rw c.in-2.is
+
+pub returns-in-3 : goal.returns-in-3
+unfolding place_kind_in
+returns-in-3 c = rw c.in-3.is
+
+pub returns-in-4 : goal.returns-in-4
+unfolding place_kind_in
+returns-in-4 c = rw c.in-4.is
+
+pub returns-in-5 : goal.returns-in-5
+unfolding place_kind_in
+returns-in-5 c = rw c.in-5.is
+
+pub returns-in-6 : goal.returns-in-6
+unfolding place_kind_in
+returns-in-6 c = rw c.in-6.is
+
+pub returns-in_default : goal.returns-in_default
+returns-in_default c =
+    let no = c.in_default.in_default-own.rest in
+    judged_in c.args.n no.0.0.0.0.0.0.1 no.0.0.0.0.0.1 no.0.0.0.0.1 no.0.0.0.1 no.0.0.1 no.0.1 no.1
