@@ -26,7 +26,7 @@ slice_bounds-advance-end-2 c =
 pub returns : goal.returns
 unfolding pair_now replies_now cursor_now
 returns c =
-        record {
+    record {
       accepts = λ h. record {
         started = refl;
         confirmed = refl;

@@ -13,7 +13,7 @@ use Rattle.address_walks.proofs.after_host.Goals.{After-same_octets}
 
 -- the two organizational domains
 compared : (v : After-same_octets)
-    →    let a = v.args in
+    → let a = v.args in
     v.same_octets.result ≡ same (drop v.in-Done.o.begin.0 a.host.now) (drop a.organization.0 a.policy.now)
 compared v =
     let a = v.args in

@@ -5,7 +5,7 @@ use Rattle.evaluation_lent.proofs.lend.Goals as goal
 pub returns : goal.returns
 unfolding held_of
 returns c =
-        rw (
+    rw (
       c.kind_number.ensures,
       c.flag_number-4.ensures,
       c.existence_number.ensures,

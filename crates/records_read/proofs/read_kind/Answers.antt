@@ -5,7 +5,7 @@ use Rattle.records_read.proofs.KindLaws.{kind_short, kind_author, kind_identifie
 use Rattle.records_read.proofs.read_kind.Goals as goal
 
 pub returns-then-content-lt2 : goal.returns-then-content-lt2
-returns-then-content-lt2 c =     kind_short c.args.t.now c.body-content.result.now c.body-content.ensures c.if-content-lt2.true
+returns-then-content-lt2 c = kind_short c.args.t.now c.body-content.result.now c.body-content.ensures c.if-content-lt2.true
 
 pub returns-then-same_octets : goal.returns-then-same_octets
 unfolding octets

@@ -20,7 +20,7 @@ returns-then-not-are_texts c =
 pub returns-then-not-is_file : goal.returns-then-not-is_file
 unfolding first_fault fault_by
 returns-then-not-is_file c =
-        rw (
+    rw (
       sym c.are_passing.ensures ∙ c.if-are_passing.false,
       sym c.are_passing-2.ensures ∙ c.if-not-are_passing.false,
       sym c.are_texts.ensures ∙ c.if-not-are_texts.false,
@@ -30,7 +30,7 @@ returns-then-not-is_file c =
 pub returns-then-not-are_passing-2 : goal.returns-then-not-are_passing-2
 unfolding first_fault fault_by
 returns-then-not-are_passing-2 c =
-        rw (
+    rw (
       sym c.are_passing.ensures ∙ c.if-are_passing.false,
       sym c.are_passing-2.ensures ∙ c.if-not-are_passing.false,
       sym c.are_texts.ensures ∙ c.if-not-are_texts.false,
@@ -41,7 +41,7 @@ returns-then-not-are_passing-2 c =
 pub returns : goal.returns
 unfolding first_fault fault_by
 returns c =
-        rw (
+    rw (
       sym c.are_passing.ensures ∙ c.if-are_passing.false,
       sym c.are_passing-2.ensures ∙ c.if-not-are_passing.false,
       sym c.are_texts.ensures ∙ c.if-not-are_texts.false,

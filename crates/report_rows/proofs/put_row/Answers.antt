@@ -7,7 +7,7 @@ use Rattle.report_rows.proofs.put_row.Goals as goal
 pub returns : goal.returns
 unfolding octets part_of
 returns c =
-        let a = c.args in (
+    let a = c.args in (
       row_puts a.row.now a.out.now a.at _ c.octet_at.ensures c.octet_at-2.ensures c.octet_at-3.ensures c.number_at-count.ensures
           c.part.ensures c.put-first.ensures c.put_address-second.ensures.0 c.put-third.ensures c.put_decimal_then-fourth.ensures
           c.put_evaluated-last.ensures c.put.ensures,

@@ -7,7 +7,7 @@ use Rattle.sheet_print.proofs.append_refusal.Goals as goal
 pub returns : goal.returns
 unfolding octets
 returns c =
-        let a = c.args in (
+    let a = c.args in (
       refusal_puts a.out.now a.at a.f c.put-number.ensures c.put_decimal_then-place.ensures c.put_decimal_then.ensures,
       refusal_text_short a.f (omega arith) (omega arith),
     )

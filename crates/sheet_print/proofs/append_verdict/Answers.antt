@@ -10,7 +10,7 @@ use Rattle.sheet_print.proofs.append_verdict.Goals as goal
 pub returns : goal.returns
 unfolding words octets flatten starts
 returns c =
-        let a = c.args in (
+    let a = c.args in (
       verdict_puts a.out.now a.at a.r a.p a.d a.count _ _ _
           c.result_piece.ensures c.applied_piece.ensures c.disposition_piece.ensures
           c.put_pieces-digits.ensures c.put_decimal_then.ensures,

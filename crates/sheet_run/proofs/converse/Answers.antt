@@ -16,7 +16,7 @@ returns-then-turn c = λ m h χ.
 
 pub loop-turns-preserved : goal.loop-turns-preserved
 loop-turns-preserved c =
-        let loop = c.loop-turns in (
+    let loop = c.loop-turns in (
       (λ m h χ. (c.take_turn-turn.ensures m loop.turns h (loop.invariant.0 m h χ)).onward c.if-turn.false),
       search rules,
       omega (arith, c.loop-turns-test.true),
