@@ -1,6 +1,6 @@
 -- Laws of hexadecimal groups, of dotted octets and of an address.
 use mathlib.Core.Path.{◌≡◌, refl, sym, ap, ◌∙◌}
-use mathlib.Core.List.{List, [], ◌∷◌, ◌++◌, map, flatten, append_assoc, append-nil}
+use mathlib.Core.List.{List, [], ◌∷◌, ◌++◌, flatten, append_assoc, append-nil}
 use mathlib.Core.Bool.{Bool, true, false}
 use Prim.Native.Nat.{ℕ, zero, suc, ◌+◌, ◌-◌, ◌*◌, ◌/◌, ◌%◌, ◌≤◌, ◌<◌}
 use native.Mathlib.Omega.{arith}
@@ -171,13 +171,13 @@ module _ (source before : Octets) (at : ℕ) {first : Octets} {same : Bool} (e :
 
   pub of_mapped : same ≡ true → {next : ℕ} {rest after : Octets} → rest ≡ drop 12 source
       → Puts (dotted rest) at before next after × (length (dotted rest) ≤ 4 * length rest)
-      → Puts (address source) at before next after × (length source ≤ 16 → length (address source) ≤ 39)
+      → Puts (address source) at before next after × (length (address source) ≤ 21 * length source) × (length source ≤ 16 → length (address source) ≤ 39)
   unfolding address
   of_mapped h {rest = rest} g p =
       let four : length rest ≡ length source - 12 = rw (g, length-drop 12 source) in
-      (rw (sym mapped_is ∙ h, ← g) p.0, λ k. rw (sym mapped_is ∙ h, ← g) (omega (arith, k, four, p.1)))
+      (rw (sym mapped_is ∙ h, ← g) p.0, rw (sym mapped_is ∙ h, ← g) (omega (arith, four, p.1)), λ k. rw (sym mapped_is ∙ h, ← g) (omega (arith, k, four, p.1)))
 
   pub of_groups : same ≡ false → {next : ℕ} {after : Octets} → Puts (grouped source) at before next after
-      → Puts (address source) at before next after × (length source ≤ 16 → length (address source) ≤ 39)
+      → Puts (address source) at before next after × (length (address source) ≤ 21 * length source) × (length source ≤ 16 → length (address source) ≤ 39)
   unfolding address
-  of_groups h p = (rw (sym mapped_is ∙ h) p, λ k. rw (sym mapped_is ∙ h) (omega (arith, k, groups_size source)))
+  of_groups h p = (rw (sym mapped_is ∙ h) p, rw (sym mapped_is ∙ h) (omega (arith, groups_size source)), λ k. rw (sym mapped_is ∙ h) (omega (arith, k, groups_size source)))

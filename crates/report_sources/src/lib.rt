@@ -67,7 +67,7 @@ fn put_dotted(s: &[u8], at: usize, out: &mut [u8]) -> usize
 
 // An address: one that is mapped dotted, any other in groups.
 pub fn put_address(source: &[u8], at: usize, out: &mut [u8]) -> usize
-    ensures { Puts (address source.now) at out.old result out.new × (length source.now ≤ 16 → length (address source.now) ≤ 39) }
+    ensures { Puts (address source.now) at out.old result out.new × (length (address source.now) ≤ 21 * length source.now) × (length source.now ≤ 16 → length (address source.now) ≤ 39) }
 {
     let mapped = [0, 0, 0, 0, 0, 0, 0, 0, 0, 0, 255, 255];
     if text_parts::same_octets(text_parts::part(source, 0, 12), &mapped) {

@@ -12,5 +12,5 @@ returns c =
           c.part.ensures c.put-first.ensures c.put_address-second.ensures.0 c.put-third.ensures c.put_decimal_then-fourth.ensures
           c.put_evaluated-last.ensures c.put.ensures,
       row_short a.row.now c.number_at-count.ensures (omega arith) (rw c.part.ensures
-          at c.put_address-second.ensures.1),
+          at c.put_address-second.ensures.2),
     )
