@@ -24,8 +24,8 @@ use Rattle.report.proofs.SizeLaws.{report_size}
 use Rattle.rows_gather.specs.code.Gathered.{rows_of}
 use Rattle.report_check.specs.code.Faults.{first_fault}
 use Rattle.report_check.proofs.FaultLaws.{given, written_lines, report_is}
-use Rattle.report_write.specs.code.Records.{AllShort, text_of, WritesShort}
-use Rattle.report_write.proofs.WritingLaws.{rows_short}
+use Rattle.report_write.specs.code.Records.{AllBrief, text_of, WritesBrief}
+use Rattle.report_write.proofs.WritingLaws.{rows_brief}
 
 rows_length : (n : ℕ) (t : Octets) → length (rows_of n t) ≡ n
 unfolding rows_of
@@ -35,19 +35,19 @@ rows_length (suc n) t = ap suc (rows_length n (drop 32 t))
 put_within : (text before : Octets) {next : ℕ} {after : Octets} → length text ≤ length before → Puts text 0 before next after → Writes text before (Wrote next) after
 put_within text before room p = appends_whole text before room (p.appends (omega (arith, room)))
 
--- a text is counted first, or there is room for the longest; S is known after a round
-module _ {S : Type 0} {text : Octets} (longest : S → length text ≤ 2592802) where
-  counted : {none left : Octets} {needed : ℕ} → Puts text 0 none needed left × S → needed ≡ length text
-  counted q = q.0.counts (omega (arith, longest q.1)) ∙ zero-add (length text)
+-- a text is counted first, or there is room for the longest; A and S are known after a round
+module _ {A S : Type 0} {text : Octets} (longest : S → length text ≤ 2592802) where
+  counted : {none left : Octets} {needed : ℕ} → Puts text 0 none needed left × A × S → needed ≡ length text
+  counted q = q.0.counts (omega (arith, longest q.2)) ∙ zero-add (length text)
 
-  pub too_long : {none left before : Octets} {needed : ℕ} {answer : Written} → Puts text 0 none needed left × S → length before < needed → answer ≡ Refused (refusal 10 needed) → Writes text before answer before
+  pub too_long : {none left before : Octets} {needed : ℕ} {answer : Written} → Puts text 0 none needed left × A × S → length before < needed → answer ≡ Refused (refusal 10 needed) → Writes text before answer before
   too_long q h e = refuses text _ (omega (arith, counted q, h)) _ (counted q) _ e
 
-  pub counted_fits : {none left before after : Octets} {needed next : ℕ} → Puts text 0 none needed left × S → needed ≤ length before → Puts text 0 before next after × S → Writes text before (Wrote next) after
+  pub counted_fits : {none left before after : Octets} {needed next : ℕ} → Puts text 0 none needed left × A × S → needed ≤ length before → Puts text 0 before next after × A × S → Writes text before (Wrote next) after
   counted_fits q h p = put_within text _ (omega (arith, counted q, h)) p.0
 
-  pub longest_fits : {before after : Octets} {next : ℕ} → 2592802 ≤ length before → Puts text 0 before next after × S → Writes text before (Wrote next) after
-  longest_fits h p = put_within text _ (omega (arith, longest p.1, h)) p.0
+  pub longest_fits : {before after : Octets} {next : ℕ} → 2592802 ≤ length before → Puts text 0 before next after × A × S → Writes text before (Wrote next) after
+  longest_fits h p = put_within text _ (omega (arith, longest p.2, h)) p.0
 
 module _ (list : DayList) (count : ℕ) (octs : Octets) (l : Lists) (by : Reporter) (s : Settings) (before : Octets) where
   abbrev the_report : OrRefused Octets
@@ -90,12 +90,12 @@ module _ (list : DayList) (count : ℕ) (octs : Octets) (l : Lists) (by : Report
           ∙ ap (λ k. given domain (rows_of most octs) l by s k) z
           ∙ ap (λ rs. ok (text_of domain s l by rs)) all_rows
 
-      longest : AllShort (rows_of most octs) → length text ≤ 2592802
+      longest : AllBrief (rows_of most octs) → length text ≤ 2592802
       unfolding text listing
       longest a =
           let size = rw (← m) at (report_size (listing list (rows_of (min count 256) octs)) l by s b n text is_text) in
-          omega (arith, rw all_rows at size, rows_short (rows_of most octs) a, rows_length most octs, m)
+          omega (arith, rw all_rows at size, rows_brief (rows_of most octs) a, rows_length most octs, m)
 
-      pub report_written : {answer : Written} {after : Octets} → WritesShort (rows_of most octs) (text_of domain s l by (rows_of most octs)) before answer after → WritesIf the_report before answer after
+      pub report_written : {answer : Written} {after : Octets} → WritesBrief (rows_of most octs) (text_of domain s l by (rows_of most octs)) before answer after → WritesIf the_report before answer after
       unfolding text written_if left_if
       report_written f = let w = f longest in record { answers = rw is_text w.answers; leaves = rw is_text w.leaves }

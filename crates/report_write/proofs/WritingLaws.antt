@@ -2,7 +2,7 @@
 use mathlib.Core.Path.{◌≡◌, refl, sym, ap, ◌∙◌}
 use mathlib.Core.List.{List, [], ◌∷◌, ◌++◌, map, flatten}
 use mathlib.Core.Bool.{Bool, true, false, true≢false}
-use Prim.Native.Nat.{ℕ, zero, suc, ◌+◌, ◌-◌, ◌*◌, ◌≤◌, ◌<◌}
+use Prim.Native.Nat.{ℕ, zero, suc, ◌-◌, ◌*◌, ◌≤◌, ◌<◌}
 use native.Mathlib.Omega.{arith}
 use lib.Dec.{eqb}
 use lib.ListN.{length, drop, length-append}
@@ -18,19 +18,19 @@ use Rattle.report.specs.Report.{Reporter, metadata, published, policy_published,
 use Rattle.rows_gather.specs.code.Gathered.{number_from, row_of, rows_of}
 use Rattle.report_texts.proofs.Going.{Goes, goes_over, goes_ends}
 use Rattle.report_rows.specs.code.Lines.{line_of}
-use Rattle.report_write.specs.code.Records.{counted_element, Short, AllShort}
+use Rattle.report_write.specs.code.Records.{counted_element, Short, AllShort, IsBrief, AllBrief}
 
 module _ (l : Lists) (row before : Octets) (at : ℕ) {n : ℕ} (e : n ≡ number_from (drop 28 row)) where
-  pub free_puts : n ≡ 0 → Puts (counted_element l (row_of row)) at before at before × Short (row_of row)
-  unfolding counted_element is_free row_of Short
+  pub free_puts : n ≡ 0 → Puts (counted_element l (row_of row)) at before at before × Short (row_of row) × IsBrief (row_of row)
+  unfolding counted_element is_free row_of Short IsBrief
   free_puts h =
       let free : eqb (number_from (drop 28 row)) 0 ≡ true = eq-eqb (number_from (drop 28 row)) 0 (sym e ∙ h) in
-      (rw free (puts_nothing before at), λ f. absurd (true≢false (sym free ∙ f)))
+      (rw free (puts_nothing before at), λ f. absurd (true≢false (sym free ∙ f)), λ f. absurd (true≢false (sym free ∙ f)))
 
   pub counted_puts : (n ≡ 0 → ⊥) → {next : ℕ} {after : Octets} → Puts (record_element (line_of l (row_of row))) at before next after × (length (row_element (row_of row)) ≤ 204)
-      → Puts (counted_element l (row_of row)) at before next after × Short (row_of row)
-  unfolding counted_element is_free row_of Short
-  counted_puts h p = (rw (ne_eqb (number_from (drop 28 row)) 0 (λ z. h (e ∙ z))) p.0, λ f. p.1)
+      → Puts (counted_element l (row_of row)) at before next after × Short (row_of row) × IsBrief (row_of row)
+  unfolding counted_element is_free row_of Short IsBrief
+  counted_puts h p = (rw (ne_eqb (number_from (drop 28 row)) 0 (λ z. h (e ∙ z))) p.0, λ f. omega (arith, p.1), λ f. p.1)
 
 -- ------------------------------------------------------------------ rows
 
@@ -50,20 +50,30 @@ unfolding rows_of flatten
 last_row l zero t h g = goes_ends g
 last_row l (suc n) t h g = absurd (omega (arith, h))
 
-pub next_short : {A : Type 0} (n : ℕ) (t rest : Octets) → 0 < n → rest ≡ drop 32 t → Short (row_of t) → (AllShort (rows_of n t) → A) → AllShort (rows_of (n - 1) rest) → A
-unfolding rows_of AllShort
-next_short zero t rest h e s f = absurd (omega (arith, h))
-next_short (suc n) t rest h e s f = let one : suc n - 1 ≡ n = omega arith in λ a. f (s, rw (one, e) at a)
+pub next_brief : {A : Type 0} (n : ℕ) (t rest : Octets) → 0 < n → rest ≡ drop 32 t → IsBrief (row_of t) → (AllBrief (rows_of n t) → A) → AllBrief (rows_of (n - 1) rest) → A
+unfolding rows_of AllBrief
+next_brief zero t rest h e s f = absurd (omega (arith, h))
+next_brief (suc n) t rest h e s f = let one : suc n - 1 ≡ n = omega arith in λ a. f (s, rw (one, e) at a)
 
-pub last_short : {A : Type 0} (n : ℕ) (t : Octets) → n ≤ 0 → (AllShort (rows_of n t) → A) → A
-unfolding rows_of AllShort
-last_short zero t h f = f tt
-last_short (suc n) t h f = absurd (omega (arith, h))
+pub last_brief : {A : Type 0} (n : ℕ) (t : Octets) → n ≤ 0 → (AllBrief (rows_of n t) → A) → A
+unfolding rows_of AllBrief
+last_brief zero t h f = f tt
+last_brief (suc n) t h f = absurd (omega (arith, h))
 
-pub rows_short : (rs : List Row) → AllShort rs → length (flatten (map row_element (counted_rows rs))) ≤ 204 * length rs
-unfolding counted_rows AllShort Short flatten
-rows_short [] a = omega arith
-rows_short (r ∷ rs) a = go (rows_short rs a.1) (is_free r) refl
+-- what is brief is short
+brief_is_short : (r : Row) → IsBrief r → Short r
+unfolding IsBrief Short
+brief_is_short r b f = omega (arith, b f)
+
+pub all_short : (rs : List Row) → AllBrief rs → AllShort rs
+unfolding AllBrief AllShort
+all_short [] a = tt
+all_short (r ∷ rs) a = (brief_is_short r a.0, all_short rs a.1)
+
+pub rows_brief : (rs : List Row) → AllBrief rs → length (flatten (map row_element (counted_rows rs))) ≤ 204 * length rs
+unfolding counted_rows AllBrief IsBrief flatten
+rows_brief [] a = omega arith
+rows_brief (r ∷ rs) a = go (rows_brief rs a.1) (is_free r) refl
   where
     go : length (flatten (map row_element (counted_rows rs))) ≤ 204 * length rs → (b : Bool) → is_free r ≡ b → length (flatten (map row_element (counted_rows (r ∷ rs)))) ≤ 204 * length (r ∷ rs)
     go ih true e = rw (e, counted_rows) (omega (arith, ih))

@@ -8,7 +8,7 @@ ghost use Rattle.octets_pieces.specs.code.Putting.{Puts};
 ghost use Rattle.rows_day.specs.Day.{listing};
 ghost use Rattle.report.specs.Report.{report};
 ghost use Rattle.rows_gather.specs.code.Gathered.{row_of, rows_of};
-ghost use Rattle.report_write.specs.code.Records.{counted_element, Short, AllShort, text_of, WritesShort};
+ghost use Rattle.report_write.specs.code.Records.{counted_element, Short, AllShort, IsBrief, AllBrief, text_of, WritesBrief};
 
 use octets::{Refusal, Written};
 use policy::Settings;
@@ -25,7 +25,7 @@ fn put_counted<'a>(
     at: usize,
     out: &mut [u8],
 ) -> usize
-    ensures { Puts (counted_element (record { authors = authors.now; sets = sets.now }) (row_of row.now)) at out.old result out.new × Short (row_of row.now) }
+    ensures { Puts (counted_element (record { authors = authors.now; sets = sets.now }) (row_of row.now)) at out.old result out.new × Short (row_of row.now) × IsBrief (row_of row.now) }
 {
     if rows_gather::number_at(row, 28) == 0 {
         return at;
@@ -42,7 +42,7 @@ fn put_records<'a>(
     at: usize,
     out: &mut [u8],
 ) -> usize
-    ensures { Puts (flatten (map (counted_element (record { authors = authors.now; sets = sets.now })) (rows_of count rows.now))) at out.old result out.new × AllShort (rows_of count rows.now) }
+    ensures { Puts (flatten (map (counted_element (record { authors = authors.now; sets = sets.now })) (rows_of count rows.now))) at out.old result out.new × AllShort (rows_of count rows.now) × AllBrief (rows_of count rows.now) }
 {
     let mut t = rows;
     let mut more = count;
@@ -73,7 +73,7 @@ fn put_report<'a>(
     end: u64,
     out: &mut [u8],
 ) -> usize
-    ensures { Puts (text_of domain.now s (record { authors = authors.now; sets = sets.now }) (record { organization = organization.now; email = email.now; contact = contact.now; id = id.now; begin = begin; end = end }) (rows_of count rows.now)) 0 out.old result out.new × AllShort (rows_of count rows.now) }
+    ensures { Puts (text_of domain.now s (record { authors = authors.now; sets = sets.now }) (record { organization = organization.now; email = email.now; contact = contact.now; id = id.now; begin = begin; end = end }) (rows_of count rows.now)) 0 out.old result out.new × AllShort (rows_of count rows.now) × AllBrief (rows_of count rows.now) }
 {
     let first = octets_pieces::put(
         b"<?xml version=\"1.0\" encoding=\"UTF-8\"?><feedback xmlns=\"urn:ietf:params:xml:ns:dmarc-2.0\">",
@@ -111,7 +111,7 @@ fn write_text<'a>(
     end: u64,
     out: &mut [u8],
 ) -> Written
-    ensures { WritesShort (rows_of count rows.now) (text_of domain.now s (record { authors = authors.now; sets = sets.now }) (record { organization = organization.now; email = email.now; contact = contact.now; id = id.now; begin = begin; end = end }) (rows_of count rows.now)) out.old result out.new }
+    ensures { WritesBrief (rows_of count rows.now) (text_of domain.now s (record { authors = authors.now; sets = sets.now }) (record { organization = organization.now; email = email.now; contact = contact.now; id = id.now; begin = begin; end = end }) (rows_of count rows.now)) out.old result out.new }
 {
     if out.len() < LONGEST {
         let mut none = [0u8; 1];

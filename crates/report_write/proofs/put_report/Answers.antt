@@ -19,4 +19,5 @@ returns c =
       report_puts a.domain.now a.s _ _ _ a.out.now c.put-first.ensures c.put_metadata-second.ensures c.put_published-third.ensures
           c.put_records-last.ensures.0 c.put.ensures,
       c.put_records-last.ensures.1,
+      c.put_records-last.ensures.2,
     )
