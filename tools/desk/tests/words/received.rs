@@ -80,7 +80,8 @@ fn what_failed_comes_first() {
 /// The example is the report of the day that is one, and its rows are the day's.
 #[test]
 fn the_example() {
-    let [day, file] = ["examples/day.txt", "examples/report.xml"].map(|name| root().join(name));
+    let [day, file] =
+        ["examples/day.txt", "examples/received/report.xml"].map(|name| root().join(name));
     let [day, file] = [&day, &file].map(|path| path.to_str().expect("a plain path"));
     let folder = Folder::new();
     let written = folder.dmarc(&["--report", day]).printed;
