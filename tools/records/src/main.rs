@@ -30,12 +30,12 @@ const USAGE: &str = "usage:
   dmarc-records day FORM NAME < day
   dmarc-records report FORM NAME < day
   dmarc-records received FORM FILE...
-FORM is plain, explain, json or next; of a day and of reports received plain, csv
-or json, of a report plain, name or subject. NAME is what the input is called in
-messages. A FILE is a report, by zcat if it ends in .gz; - is standard input. An
-address ends with 20 not known, 21 no, 22 inside, 23 confirmed or 24 replaced, with
-3 if it is refused, and with 0 if a next name is printed. Reports written or
-received end with 3 if one is refused.";
+FORM is plain, explain, json or next; of a day plain, csv or json, of a report
+plain, name or subject. NAME is what the input is called in messages. An address
+ends with 20 not known, 21 no, 22 inside, 23 confirmed or 24 replaced, with 3 if
+it is refused, and with 0 if a next name is printed. A report ends with 3 if it is
+refused. Of reports received FORM is as of a day; a FILE is a report, by zcat if it
+ends in .gz, - is standard input, and they end with 3 if one is refused.";
 
 /// More octets than a field is read of.
 const FIELD_OCTETS: u64 = 1 << 20;

@@ -217,7 +217,7 @@ const MISUSES: &[(&[&str], &str)] = &[
         &["--next", "--status", "a"],
         "--next and --status do not go together",
     ),
-    (&["--csv", "a"], "--csv goes with --day and --received"),
+    (&["--csv", "a"], "--csv goes with --day"),
     (&["--name", "a"], "--name goes with --report"),
     (&["--subject", "a"], "--subject goes with --report"),
 ];
