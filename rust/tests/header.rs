@@ -111,8 +111,12 @@ fn the_structs_have_the_same_fields() {
     }
     assert!(HEADER.contains(&format!("}} {TEXT};")));
     let structs = HEADER.matches("typedef struct {").count();
-    // A lent text, and what a call of a reader gives beside its numbers.
-    assert_eq!(structs, STRUCTS.len() + 2);
+    // Beside these a lent text, and one of a reader: what a call gives with its numbers.
+    let of_readers = ["waslidhaj_read_given"];
+    for name in of_readers {
+        assert!(HEADER.contains(&format!("}} {name};")));
+    }
+    assert_eq!(structs - of_readers.len(), STRUCTS.len() + 1);
 }
 
 /// The names of functions, each before one of these.
@@ -132,7 +136,10 @@ fn the_functions_are_the_same() {
     let prototypes = prototypes.filter(|line| !line.starts_with("static "));
     let in_c: BTreeSet<String> = prototypes.flat_map(|line| names(line, " ")).collect();
     assert_eq!(here, in_c);
-    assert_eq!(here.len(), 28);
+    let of_readers = ["new_reader", "read_apart", "end"].map(|name| format!("waslidhaj_{name}"));
+    let of_readers = here.intersection(&of_readers.into()).count();
+    assert_eq!(here.len() - of_readers, 25);
+    assert_eq!(of_readers, 3);
 }
 
 /// A number of the header by its name.

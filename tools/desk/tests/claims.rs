@@ -130,14 +130,16 @@ const TABLES: [(&str, &str, &[&str]); 17] = [
 ];
 const CHECKS: &str = "address/specs/Marked.antt";
 
-/// The files of claims.
+/// The files of claims, by their names.
 fn claimed() -> Vec<PathBuf> {
     let folders =
         ["claims/specs", "delivered/specs"].map(|folder| root().join("crates").join(folder));
-    folders
+    let mut claimed: Vec<PathBuf> = folders
         .iter()
         .flat_map(|folder| files(folder, ".antt"))
-        .collect()
+        .collect();
+    claimed.sort_by(|one, other| one.file_name().cmp(&other.file_name()));
+    claimed
 }
 
 /// Everything that is claimed, by name, and how many rows each table has.

@@ -31,6 +31,8 @@ fn overlapping_memory_is_as_memory_apart() {
             "{standard}: {}: {printed}",
             ran.status
         );
-        assert_eq!(printed, "261958 calls, all the same\n", "{standard}");
+        let expected = "235716 calls, all the same\n\
+                        26242 calls with readers, all the same\n";
+        assert_eq!(printed, expected, "{standard}");
     }
 }
