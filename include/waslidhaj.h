@@ -55,10 +55,10 @@ enum {
  * since that is copied:
  *
  *   call                      apart   overlapping
- *   waslidhaj_open            23552
- *   waslidhaj_add             31744
- *   waslidhaj_next            39936
- *   waslidhaj_answer          64512         74752
+ *   waslidhaj_open            29696
+ *   waslidhaj_add             38912
+ *   waslidhaj_next            52224
+ *   waslidhaj_answer          87040         97280
  *   waslidhaj_result          17408
  *   waslidhaj_field           23552
  *   waslidhaj_name            12288
@@ -71,7 +71,7 @@ enum {
  *   waslidhaj_file_name        2048          2048
  *   waslidhaj_write_record     2048          6144
  *   waslidhaj_read_record     18432
- *   waslidhaj_gather          25600
+ *   waslidhaj_gather          33792
  *   waslidhaj_report          35840         35840
  *   waslidhaj_subject          2048          2048
  *   waslidhaj_read_field       1024
@@ -86,7 +86,7 @@ enum {
  *
  * Add 4,096 where a program binds memcpy at its first call. Every call fits a thread of 128 KiB, but waslidhaj_run where its
  * memory overlaps. Enough for every call but waslidhaj_run, and for that one, is: */
-enum { WASLIDHAJ_STACK_OCTETS = 81920, WASLIDHAJ_RUN_STACK_OCTETS = 163840 };
+enum { WASLIDHAJ_STACK_OCTETS = 102400, WASLIDHAJ_RUN_STACK_OCTETS = 163840 };
 
 /* ---- Numbers of document 01 ---- */
 

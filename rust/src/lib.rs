@@ -132,6 +132,6 @@ pub const CHECK_NAMES: usize = 17;
 pub const ROWS: usize = 256;
 /// The stack that is enough for every call of the C interface but `run`. Copies of
 /// an evaluation that Rust makes on the way come on top.
-pub const STACK_OCTETS: usize = 81_920;
+pub const STACK_OCTETS: usize = 102_400;
 /// The stack that is enough for [`run`], likewise.
 pub const RUN_STACK_OCTETS: usize = 163_840;
