@@ -56,7 +56,7 @@ enum {
  *
  *   call                      apart   overlapping
  *   waslidhaj_open            29696
- *   waslidhaj_add             38912
+ *   waslidhaj_add             48128
  *   waslidhaj_next            52224
  *   waslidhaj_answer          87040         97280
  *   waslidhaj_result          17408
@@ -69,11 +69,11 @@ enum {
  *   waslidhaj_clear            3072          3072
  *   waslidhaj_enter            3072          3072
  *   waslidhaj_file_name        2048          2048
- *   waslidhaj_write_record     2048          6144
+ *   waslidhaj_write_record     1024          6144
  *   waslidhaj_read_record     18432
  *   waslidhaj_gather          33792
  *   waslidhaj_report          35840         35840
- *   waslidhaj_subject          2048          2048
+ *   waslidhaj_subject          1024          2048
  *   waslidhaj_read_field       1024
  *   waslidhaj_check_start      8192
  *   waslidhaj_check_next       4096

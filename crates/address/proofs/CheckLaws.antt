@@ -1,8 +1,8 @@
 -- What holds of the book of address checks after every list of calls.
+use Rattle.std.specs.Prelude.{Option, None, Some}
 use mathlib.Core.Path.{◌≡◌, refl, ap, sym, ◌∙◌, subst}
 use mathlib.Core.List.{List, [], ◌∷◌, ◌++◌, append-nil}
 use mathlib.Core.Bool.{Bool, true, false, ◌||◌, false≢true}
-use mathlib.Core.Option.{Option, none as nothing, some as just, none-ne-some, some-injective}
 use Prim.Native.Nat.{◌≤◌}
 use native.Mathlib.Omega.{arith}
 use lib.ListN.{length, length-append}
@@ -23,18 +23,19 @@ use Rattle.address.specs.Checks.{CheckCall, start, next, result, answer, Pair, c
 use Rattle.address.specs.Claims.{check_book, check_gave, begins, names_since, check_memory, CheckClaims, CheckClaimed}
 use Rattle.address.proofs.NameLaws.{at_end, names_of_check}
 use Rattle.address.proofs.ErrorLaws.{after_error}
+use Rattle.std.proofs.lemmas.Option.{none-some, same_Some}
 
 -- ------------------------------------------------------------------ what every call keeps
 
 pub record Kept (b : CheckBook) : Type 0 where
   -- the run is one of the check's
-  pub reached : (c : Pair) → b.pair ≡ just c → Reached (check_lookups c) b.run
+  pub reached : (c : Pair) → b.pair ≡ Some c → Reached (check_lookups c) b.run
   -- until one is started, it is as it began
-  pub unstarted : b.pair ≡ nothing → b.run ≡ begun
+  pub unstarted : b.pair ≡ None → b.run ≡ begun
 
 pub kept_nothing : Kept nothing_started
 unfolding nothing_started
-kept_nothing = record { reached = λ c e. absurd (none-ne-some c e); unstarted = λ e. refl }
+kept_nothing = record { reached = λ c e. absurd (none-some c e); unstarted = λ e. refl }
 
 module _ (b : CheckBook) (κ : Kept b) where
   kept_start : (r : OrRefused Pair) → Kept (start_by b r).0
@@ -44,10 +45,10 @@ module _ (b : CheckBook) (κ : Kept b) where
 
   kept_next : (o : Option Pair) → b.pair ≡ o → Kept (next_of b o).0
   unfolding next_of with_run
-  kept_next nothing e = κ
-  kept_next (just c) e = record {
-    reached = λ d f. subst (λ x. Reached (check_lookups x) (next_step (check_lookups c) b.run).0) (some-injective c d (sym e ∙ f)) (by_next (κ.reached c e));
-    unstarted = λ f. absurd (none-ne-some c (sym f ∙ e));
+  kept_next None e = κ
+  kept_next (Some c) e = record {
+    reached = λ d f. subst (λ x. Reached (check_lookups x) (next_step (check_lookups c) b.run).0) (same_Some c d (sym e ∙ f)) (by_next (κ.reached c e));
+    unstarted = λ f. absurd (none-some c (sym f ∙ e));
   }
 
   kept_answer : (name : Octets) (a : Answer) (scratch : Octets) → Kept (with_run b (take b.run name a a scratch)).0
@@ -55,7 +56,7 @@ module _ (b : CheckBook) (κ : Kept b) where
   kept_answer name a scratch = record {
     reached = λ c e. by_answer (κ.reached c e) name a a scratch;
     unstarted = λ f. take_cases (λ x. x.0 ≡ begun) b.run name a a scratch (λ r. κ.unstarted f)
-        λ n ts e. absurd (none-ne-some n (sym (ap (λ (s : Asking Answer). s.asked) (κ.unstarted f)) ∙ e));
+        λ n ts e. absurd (none-some n (sym (ap (λ (s : Asking Answer). s.asked) (κ.unstarted f)) ∙ e));
   }
 
 pub kept_call : (b : CheckBook) → Kept b → (c : CheckCall) → Kept (check_call b c).0
@@ -95,13 +96,13 @@ module _ (b : CheckBook) (κ : Kept b) where
 
   names_next : (o : Option Pair) → b.pair ≡ o → Names b next (next_of b o)
   unfolding Names next_of with_run begins given_name once
-  names_next nothing e = quiet b [] refl
-  names_next (just c) e = adds_next (check_lookups c) b.run (held (check_lookups c) b.run (κ.reached c e))
+  names_next None e = quiet b [] refl
+  names_next (Some c) e = adds_next (check_lookups c) b.run (held (check_lookups c) b.run (κ.reached c e))
 
   names_result : (o : Option Pair) → Names b result (b, result_in b o)
   unfolding Names result_in begins given_name once result_of
-  names_result nothing = quiet b [] refl
-  names_result (just c) = quiet b _ (result_quiet b.run (standing (check_lookups c) b.run))
+  names_result None = quiet b [] refl
+  names_result (Some c) = quiet b _ (result_quiet b.run (standing (check_lookups c) b.run))
 
   names_call : (c : CheckCall) → Names b c (check_call b c)
   unfolding check_call
@@ -161,8 +162,8 @@ module _ (b : CheckBook) (f : Refusal) where
 
   stands_next : (o : Option Pair) → Stands b [] f (next_of b o)
   unfolding next_of next_step
-  stands_next nothing = unfold Stands in λ h. ap (λ k. (b, given k [])) h
-  stands_next (just c) = stands_step (standing (check_lookups c) b.run)
+  stands_next None = unfold Stands in λ h. ap (λ k. (b, given k [])) h
+  stands_next (Some c) = stands_step (standing (check_lookups c) b.run)
 
   stands_by : (u : Standing Agreement) → Stands b [] f (b, result_by b.run u)
   unfolding Stands result_by is_refused
@@ -171,8 +172,8 @@ module _ (b : CheckBook) (f : Refusal) where
 
   stands_result : (o : Option Pair) → Stands b [] f (b, result_in b o)
   unfolding result_in result_of
-  stands_result nothing = unfold Stands in λ h. ap (λ k. (b, given k [])) h
-  stands_result (just c) = stands_by (standing (check_lookups c) b.run)
+  stands_result None = unfold Stands in λ h. ap (λ k. (b, given k [])) h
+  stands_result (Some c) = stands_by (standing (check_lookups c) b.run)
 
   stands_call : (c : CheckCall) → Stands b (check_memory c) f (check_call b c)
   unfolding check_call check_memory
@@ -186,7 +187,7 @@ module _ (b : CheckBook) (f : Refusal) where
 -- ------------------------------------------------------------------ the claims
 
 module _ (b : CheckBook) (κ : Kept b) where
-  claims : (c : Pair) → b.pair ≡ just c → AskingClaims (check_lookups c) b.run
+  claims : (c : Pair) → b.pair ≡ Some c → AskingClaims (check_lookups c) b.run
   unfolding AskingClaimed
   claims c e = asking_claimed Answer Agreement (check_lookups c) b.run (κ.reached c e)
 
@@ -195,13 +196,13 @@ module _ (b : CheckBook) (κ : Kept b) where
 
   counted : (o : Option Pair) → b.pair ≡ o → count b.run ≤ 17
   unfolding count
-  counted nothing e = rw (κ.unstarted e) (unfold begun asked_names now_asked names in omega arith)
-  counted (just c) e =
+  counted None e = rw (κ.unstarted e) (unfold begun asked_names now_asked names in omega arith)
+  counted (Some c) e =
       let (rest, f) = (claims c e).until_then some_answers (unfold some_answers in completes b.run.taken (λ n. lookup_error)) in
       let most : length (list some_answers (check_lookups c)) ≤ 17 = unfold check_lookups in (names_of_check c.policy c.host some_answers).at_most_17 in
       omega (arith, sym (length-append (asked_names b.run) rest) ∙ ap length (sym f), most)
 
-  last : (c : Pair) → b.pair ≡ just c → member (confirming_name c.policy c.host) (asked_names b.run) ≡ true
+  last : (c : Pair) → b.pair ≡ Some c → member (confirming_name c.policy c.host) (asked_names b.run) ≡ true
       → (ns : List Name) × (asked_names b.run ≡ ns ++ (confirming_name c.policy c.host ∷ []))
   last c e m =
       let (rest, f) = (claims c e).until_then some_answers (unfold some_answers in completes b.run.taken (λ n. lookup_error)) in

@@ -2,11 +2,10 @@
 use mathlib.Core.Path.{◌≡◌, refl, ap, sym, ◌∙◌}
 use mathlib.Core.List.{List, [], ◌∷◌, ◌++◌}
 use mathlib.Core.Bool.{Bool, true, false, ◌||◌, false≢true}
-use mathlib.Core.Option.{Option, none as nothing, some as just, map}
 use Prim.Native.Nat.{ℕ, ◌+◌}
 use lib.Dec.{leb}
 use lib.ListN.{length}
-use Rattle.std.specs.Prelude.{if◌then◌else◌}
+use Rattle.std.specs.Prelude.{if◌then◌else◌, Some, None, Option, option_map}
 use Rattle.octets.specs.Octets.{Octets, any, all, same}
 use Rattle.octets.proofs.ListLaws.{any_append}
 use Rattle.lookup.specs.Lookup.{Name, Lookups, done, ask, look_up, reading, ◌>>=◌, Answers, find, needs, has, run, run_over, Grown, start, grow}
@@ -15,7 +14,6 @@ use Rattle.domain.specs.Domain.{Domain, targets, can_ask, asked_name}
 use Rattle.txt.specs.declared.Reply.{Reply}
 use Rattle.txt.specs.Answers.{Answer, records, no_records, lookup_error, texts_read, policy_records, single, reply_of_texts, reply}
 use Rattle.policy.specs.declared.Settings.{Settings}
-use Rattle.policy.specs.declared.Reading.{Reading}
 use Rattle.policy.specs.declared.Bounds.{Bounds}
 use Rattle.policy.specs.Records.{read_policy, rua_begin, rua_length}
 use Rattle.walk.specs.Walk.{record_at, Walked, ends_walk, go_on, found, walk_over, walk, organizational, organizational_domain}
@@ -58,22 +56,22 @@ ends_record : (d : Domain) → EndsWith is_error Reply.Error (record_at d)
 unfolding record_at EndsWith ◌>>=◌
 ends_record d = ends_if is_error Reply.Error (can_ask d) (look_up (asked_name d)) (done Reply.NoRecord) (λ r e. ap done (an_error r e), λ r. tt) tt
 
-ends_go_on : (d : Domain) (r : Reply) (rest : Lookups Reply Walked) → EndsWith is_error nothing rest → EndsWith is_error nothing (go_on d r rest)
+ends_go_on : (d : Domain) (r : Reply) (rest : Lookups Reply Walked) → EndsWith is_error None rest → EndsWith is_error None (go_on d r rest)
 unfolding go_on EndsWith
 ends_go_on d Reply.Error rest e = tt
 ends_go_on d Reply.NoRecord rest e = e
-ends_go_on d (Reply.Record s) rest e = ends_if is_error nothing (ends_walk s.psd) _ _ tt (ends_bind is_error nothing nothing rest (λ fs. done (map (λ l. found d s ∷ l) fs)) e refl (λ fs. tt))
+ends_go_on d (Reply.Record s) rest e = ends_if is_error None (ends_walk s.psd) _ _ tt (ends_bind is_error None None rest (λ fs. done (option_map (λ l. found d s ∷ l) fs)) e refl (λ fs. tt))
 
-ends_walk_over : (ds : List Domain) → EndsWith is_error nothing (walk_over ds)
+ends_walk_over : (ds : List Domain) → EndsWith is_error None (walk_over ds)
 unfolding walk_over EndsWith go_on
 ends_walk_over [] = tt
-ends_walk_over (d ∷ ds) = ends_bind is_error Reply.Error nothing (record_at d) _ (ends_record d) refl (λ r. ends_go_on d r (walk_over ds) (ends_walk_over ds))
+ends_walk_over (d ∷ ds) = ends_bind is_error Reply.Error None (record_at d) _ (ends_record d) refl (λ r. ends_go_on d r (walk_over ds) (ends_walk_over ds))
 
-ends_organization : (d : Domain) → EndsWith (λ a. is_error (reply a)) nothing (organization d)
+ends_organization : (d : Domain) → EndsWith (λ a. is_error (reply a)) None (organization d)
 unfolding organization organizational_domain walk EndsWith
 ends_organization d =
-    ends_reading is_error nothing reply (organizational_domain d)
-    (ends_bind is_error nothing nothing (walk d) (λ fs. done (map (organizational d) fs)) (ends_walk_over (targets d)) refl (λ fs. tt))
+    ends_reading is_error None reply (organizational_domain d)
+    (ends_bind is_error None None (walk d) (λ fs. done (option_map (organizational d) fs)) (ends_walk_over (targets d)) refl (λ fs. tt))
 
 -- ------------------------------------------------------------------ the check
 
@@ -87,9 +85,9 @@ error_unknown : (h : Domain) (a : Answer) → is_error (reply a) ≡ true → co
 unfolding confirmation reply reply_of_texts is_error
 error_unknown h (records bytes) e = go (texts_read bytes) e
   where
-    go : (o : Option (List Octets)) → is_error (reply_of_texts o) ≡ true → elim o as (λ _. Agreement) [ nothing ↦ Agreement.NotKnown | just ts ↦ agreement h 0 false ts ] ≡ Agreement.NotKnown
-    go nothing e = refl
-    go (just ts) e = absurd (false≢true (sym (single_reply (policy_records ts)) ∙ e))
+    go : (o : Option (List Octets)) → is_error (reply_of_texts o) ≡ true → elim o as (λ _. Agreement) [ None ↦ Agreement.NotKnown | Some ts ↦ agreement h 0 false ts ] ≡ Agreement.NotKnown
+    go None e = refl
+    go (Some ts) e = absurd (false≢true (sym (single_reply (policy_records ts)) ∙ e))
 error_unknown h no_records e = absurd (false≢true e)
 error_unknown h lookup_error e = refl
 
@@ -110,17 +108,17 @@ module _ (h : Domain) (f : Agreement → Bool) (no : f Agreement.PlainNo ≡ fal
   texts_say at one [] = either_says one _ _ yes no
   texts_say at one (t ∷ ts) = go (λ a o. texts_say a o ts) (read_policy t) refl
     where
-      go : ((a : ℕ) (o : Bool) → f (agreement h a o ts) ≡ false) → (r : Reading) → read_policy t ≡ r → f (agreement h at one (t ∷ ts)) ≡ false
-      go ih (Reading.Record s) e = rw (e, agreement) (hosts_say at t _ _ (ih _ _))
-      go ih Reading.NoRecord e = rw (e, agreement) (ih _ _)
+      go : ((a : ℕ) (o : Bool) → f (agreement h a o ts) ≡ false) → (r : Option Settings) → read_policy t ≡ r → f (agreement h at one (t ∷ ts)) ≡ false
+      go ih (Some s) e = rw (e, agreement) (hosts_say at t _ _ (ih _ _))
+      go ih None e = rw (e, agreement) (ih _ _)
 
 -- not known exactly by an answer that is an error
 pub unknown_exactly : (h : Domain) (a : Answer) → says_not_known (confirmation h a) ≡ is_error (reply a)
 unfolding confirmation reply reply_of_texts is_error says_not_known
 unknown_exactly h (records bytes) =
-    elim (texts_read bytes) as (λ o. says_not_known (elim o as (λ _. Agreement) [ nothing ↦ Agreement.NotKnown | just ts ↦ agreement h 0 false ts ]) ≡ is_error (reply_of_texts o)) [
-      | nothing ↦ refl
-      | just ts ↦ texts_say h says_not_known refl refl (λ b. refl) 0 false ts ∙ sym (single_reply (policy_records ts))
+    elim (texts_read bytes) as (λ o. says_not_known (elim o as (λ _. Agreement) [ None ↦ Agreement.NotKnown | Some ts ↦ agreement h 0 false ts ]) ≡ is_error (reply_of_texts o)) [
+      | None ↦ refl
+      | Some ts ↦ texts_say h says_not_known refl refl (λ b. refl) 0 false ts ∙ sym (single_reply (policy_records ts))
     ]
 unknown_exactly h no_records = refl
 unknown_exactly h lookup_error = refl
@@ -135,17 +133,17 @@ module _ (p h : Domain) where
 
   ends_host : (o : Domain) (q : Option Domain) → EndsWith bad Agreement.NotKnown (by_host p h o q)
   unfolding by_host EndsWith
-  ends_host o nothing = tt
-  ends_host o (just q) = ends_if bad Agreement.NotKnown (same q o) (done Agreement.Inside) (confirm p h) tt ends_confirm
+  ends_host o None = tt
+  ends_host o (Some q) = ends_if bad Agreement.NotKnown (same q o) (done Agreement.Inside) (confirm p h) tt ends_confirm
 
   ends_policy : (o : Option Domain) → EndsWith bad Agreement.NotKnown (by_policy p h o)
   unfolding by_policy EndsWith by_host bad
-  ends_policy nothing = tt
-  ends_policy (just o) = ends_bind bad nothing Agreement.NotKnown (organization h) (by_host p h o) (ends_organization h) refl (ends_host o)
+  ends_policy None = tt
+  ends_policy (Some o) = ends_bind bad None Agreement.NotKnown (organization h) (by_host p h o) (ends_organization h) refl (ends_host o)
 
   ends_check : EndsWith bad Agreement.NotKnown (check p h)
   unfolding check EndsWith by_policy bad
-  ends_check = ends_if bad Agreement.NotKnown (same h p) (done Agreement.Inside) (organization p >>= by_policy p h) tt (ends_bind bad nothing Agreement.NotKnown (organization p) (by_policy p h) (ends_organization p) refl ends_policy)
+  ends_check = ends_if bad Agreement.NotKnown (same h p) (done Agreement.Inside) (organization p >>= by_policy p h) tt (ends_bind bad None Agreement.NotKnown (organization p) (by_policy p h) (ends_organization p) refl ends_policy)
 
 -- ------------------------------------------------------------------ a run over accepted answers
 
@@ -156,10 +154,10 @@ module _ {R A : Type 0} (bad : R → Bool) (w : A) where
   ended β n r b (ask m k) e s = go (λ q f. ended β n r b (k q) (e.1 q) f) (find β m) refl
     where
       go : ((q : R) → run_over β (k q) ≡ needs n → run_over (β ++ ((n, r) ∷ [])) (k q) ≡ has w) → (o : Option R) → find β m ≡ o → run_over (β ++ ((n, r) ∷ [])) (ask m k) ≡ has w
-      go ih nothing f =
+      go ih None f =
           let same_name : m ≡ n = needs_injective m n (sym (run_open (find β) m k f) ∙ s) in
           run_known (find (β ++ ((n, r) ∷ []))) m k r (rw same_name (find_new β n r (ap (find β) (sym same_name) ∙ f))) ∙ ap (run_over (β ++ ((n, r) ∷ []))) (e.0 r b)
-      go ih (just q) f = run_known (find (β ++ ((n, r) ∷ []))) m k q (find_append β ((n, r) ∷ []) m q f) ∙ ih q (sym (run_known (find β) m k q f) ∙ s)
+      go ih (Some q) f = run_known (find (β ++ ((n, r) ∷ []))) m k q (find_append β ((n, r) ∷ []) m q f) ∙ ih q (sym (run_known (find β) m k q f) ∙ s)
 
   after_bad : (t : Lookups R A) → EndsWith bad w t → {β : Answers R} → Grown t β → any (λ x. bad x.1) β ≡ true → run_over β t ≡ has w
   unfolding any

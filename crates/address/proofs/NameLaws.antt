@@ -2,13 +2,12 @@
 use mathlib.Core.Path.{◌≡◌, refl, ap, sym, ◌∙◌}
 use mathlib.Core.List.{List, [], ◌∷◌, ◌++◌, map, append_assoc, append-nil}
 use mathlib.Core.Bool.{Bool, true, false, ◌&&◌, ◌||◌, not, true≢false, false≢true, or-false}
-use mathlib.Core.Option.{Option, none as nothing, some as just}
 use Prim.Native.Nat.{ℕ, ◌+◌, ◌≤◌, ◌<◌}
 use native.Mathlib.Omega.{arith}
 use lib.Dec.{leb}
 use borrow.Author.Tests.{le-leb, lt-leb}
 use lib.ListN.{length, length-append, length-map, length-drop}
-use Rattle.std.specs.Prelude.{if◌then◌else◌}
+use Rattle.std.specs.Prelude.{if◌then◌else◌, Option, None, Some}
 use Rattle.octets.specs.Octets.{octets, is_nothing, same, any, lower}
 use Rattle.octets.proofs.ListLaws.{neither, any_append}
 use Rattle.octets.proofs.TextLaws.{same_uneven, same_self, true→T}
@@ -107,9 +106,9 @@ module _ (p h : Domain) where
   -- an answer never makes an address inside
   confirmation_outside : (a : Answer) → says_inside (confirmation h a) ≡ false
   unfolding confirmation says_inside
-  confirmation_outside (records bytes) = elim (texts_read bytes) as (λ o. says_inside (elim o as (λ _. Agreement) [ nothing ↦ Agreement.NotKnown | just ts ↦ agreement h 0 false ts ]) ≡ false) [
-    | nothing ↦ refl
-    | just ts ↦ texts_say h says_inside refl refl (λ b. refl) 0 false ts
+  confirmation_outside (records bytes) = elim (texts_read bytes) as (λ o. says_inside (elim o as (λ _. Agreement) [ None ↦ Agreement.NotKnown | Some ts ↦ agreement h 0 false ts ]) ≡ false) [
+    | None ↦ refl
+    | Some ts ↦ texts_say h says_inside refl refl (λ b. refl) 0 false ts
   ]
   confirmation_outside no_records = refl
   confirmation_outside lookup_error = refl
@@ -125,16 +124,16 @@ module _ (p h : Domain) where
 
     host_shape : (o : Domain) (q : Option Domain) → Shape (value α (by_host p h o q)) (path α (by_host p h o q))
     unfolding by_host path value member any
-    host_shape o nothing = without_it refl
-    host_shape o (just q) = elim (same q o) as (λ b. Shape (value α (if b then done Agreement.Inside else confirm p h)) (path α (if b then done Agreement.Inside else confirm p h))) [
+    host_shape o None = without_it refl
+    host_shape o (Some q) = elim (same q o) as (λ b. Shape (value α (if b then done Agreement.Inside else confirm p h)) (path α (if b then done Agreement.Inside else confirm p h))) [
       | true ↦ without_it refl
       | false ↦ confirm_shape
     ]
 
     policy_shape : (o : Option Domain) → Shape (value α (by_policy p h o)) (path α (by_policy p h o))
     unfolding by_policy path value member any
-    policy_shape nothing = without_it refl
-    policy_shape (just o) =
+    policy_shape None = without_it refl
+    policy_shape (Some o) =
         rw (path_bind α (organization h) (by_host p h o), value_bind α (organization h) (by_host p h o))
         (after_walk _ (path α (organization h)) _ (not_in_path α (confirming_name p h) h (omega (arith, long_name))) (host_shape o (value α (organization h))))
 
@@ -189,16 +188,16 @@ module _ (p h : Domain) where
 
     host_count : (o : Domain) (q : Option Domain) → length (list α (by_host p h o q)) ≤ one_if (asks_it (by_host p h o q))
     unfolding by_host
-    host_count o nothing = omega (arith, none Agreement.NotKnown)
-    host_count o (just q) = elim (same q o) as (λ b. length (list α (if b then done Agreement.Inside else confirm p h)) ≤ one_if (asks_it (if b then done Agreement.Inside else confirm p h))) [
+    host_count o None = omega (arith, none Agreement.NotKnown)
+    host_count o (Some q) = elim (same q o) as (λ b. length (list α (if b then done Agreement.Inside else confirm p h)) ≤ one_if (asks_it (if b then done Agreement.Inside else confirm p h))) [
       | true ↦ omega (arith, none Agreement.Inside)
       | false ↦ confirm_count
     ]
 
     policy_count : (o : Option Domain) → length (list α (by_policy p h o)) ≤ 8 + one_if (asks_it (by_policy p h o))
     unfolding by_policy
-    policy_count nothing = omega (arith, none Agreement.NotKnown)
-    policy_count (just o) =
+    policy_count None = omega (arith, none Agreement.NotKnown)
+    policy_count (Some o) =
         omega (arith, (adds α (organization h) (by_host p h o)).at_most, walk_eight h, host_count o (value α (organization h)), ap one_if (past_host (by_host p h o)))
 
     check_count : length (list α (check p h)) ≤ 16 + one_if (asks_it (check p h))
@@ -230,18 +229,18 @@ module _ (p h : Domain) where
       | false ↦ refl
     ]
 
-    host_inside : (o : Domain) (q : Option Domain) → says_inside (value α (by_host p h o q)) ≡ equal_known (just o) q
+    host_inside : (o : Domain) (q : Option Domain) → says_inside (value α (by_host p h o q)) ≡ equal_known (Some o) q
     unfolding by_host value says_inside equal_known
-    host_inside o nothing = refl
-    host_inside o (just q) = elim (same q o) as (λ b. says_inside (value α (if b then done Agreement.Inside else confirm p h)) ≡ b) [
+    host_inside o None = refl
+    host_inside o (Some q) = elim (same q o) as (λ b. says_inside (value α (if b then done Agreement.Inside else confirm p h)) ≡ b) [
       | true ↦ refl
       | false ↦ confirm_outside
     ]
 
     policy_inside : (o : Option Domain) → says_inside (value α (by_policy p h o)) ≡ equal_known o (value α (organization h))
     unfolding by_policy value says_inside equal_known
-    policy_inside nothing = refl
-    policy_inside (just o) = ap says_inside (value_bind α (organization h) (by_host p h o)) ∙ host_inside o (value α (organization h))
+    policy_inside None = refl
+    policy_inside (Some o) = ap says_inside (value_bind α (organization h) (by_host p h o)) ∙ host_inside o (value α (organization h))
 
     check_inside : says_inside (value α (check p h)) ≡ is_inside α p h
     unfolding check value says_inside is_inside
@@ -264,10 +263,10 @@ module _ (p h : Domain) where
         ]
 
     host_member : (o : Domain) (q : Option Domain)
-        → member (confirming_name p h) (path α (by_host p h o q)) ≡ (not (equal_known (just o) q) && not (is_nothing (just o)) && not (is_nothing q) && short)
+        → member (confirming_name p h) (path α (by_host p h o q)) ≡ (not (equal_known (Some o) q) && not (is_nothing (Some o)) && not (is_nothing q) && short)
     unfolding by_host path member any equal_known is_nothing
-    host_member o nothing = refl
-    host_member o (just q) = elim (same q o) as (λ b. member (confirming_name p h) (path α (if b then done Agreement.Inside else confirm p h)) ≡ (not b && true && true && short)) [
+    host_member o None = refl
+    host_member o (Some q) = elim (same q o) as (λ b. member (confirming_name p h) (path α (if b then done Agreement.Inside else confirm p h)) ≡ (not b && true && true && short)) [
       | true ↦ refl
       | false ↦ confirm_member
     ]
@@ -276,8 +275,8 @@ module _ (p h : Domain) where
         → member (confirming_name p h) (path α (by_policy p h o))
         ≡ (not (equal_known o (value α (organization h))) && not (is_nothing o) && not (is_nothing (value α (organization h))) && short)
     unfolding by_policy path member any equal_known is_nothing
-    policy_member nothing = refl
-    policy_member (just o) = past_host (by_host p h o) ∙ host_member o (value α (organization h))
+    policy_member None = refl
+    policy_member (Some o) = past_host (by_host p h o) ∙ host_member o (value α (organization h))
 
     check_member : member (confirming_name p h) (path α (check p h)) ≡ (is_outside α p h && short)
     unfolding check path member any is_outside is_inside
@@ -292,10 +291,10 @@ module _ (p h : Domain) where
     abbrev outside_by : (policy host : Option Domain) → Bool
     outside_by o q = not (equal_known o q) && not (is_nothing o) && not (is_nothing q)
 
-    host_outside : (o : Domain) (q : Option Domain) → outside_by (just o) q ≡ true → value α (by_host p h o q) ≡ value α (confirm p h)
+    host_outside : (o : Domain) (q : Option Domain) → outside_by (Some o) q ≡ true → value α (by_host p h o q) ≡ value α (confirm p h)
     unfolding by_host value equal_known is_nothing
-    host_outside o nothing e = absurd (false≢true e)
-    host_outside o (just q) e = go (same q o) e
+    host_outside o None e = absurd (false≢true e)
+    host_outside o (Some q) e = go (same q o) e
       where
         go : (b : Bool) → (not b && true && true) ≡ true → value α (if b then done Agreement.Inside else confirm p h) ≡ value α (confirm p h)
         go true f = absurd (false≢true f)
@@ -303,8 +302,8 @@ module _ (p h : Domain) where
 
     policy_outside : (o : Option Domain) → outside_by o (value α (organization h)) ≡ true → value α (by_policy p h o) ≡ value α (confirm p h)
     unfolding by_policy value equal_known is_nothing
-    policy_outside nothing e = absurd (false≢true e)
-    policy_outside (just o) e = value_bind α (organization h) (by_host p h o) ∙ host_outside o (value α (organization h)) e
+    policy_outside None e = absurd (false≢true e)
+    policy_outside (Some o) e = value_bind α (organization h) (by_host p h o) ∙ host_outside o (value α (organization h)) e
 
     check_outside : is_outside α p h ≡ true → value α (check p h) ≡ value α (confirm p h)
     unfolding check value is_outside is_inside
@@ -358,8 +357,8 @@ module _ (p h : Domain) where
 
     host_unknown : (o : Domain) (q : Option Domain) → says_not_known (value α (by_host p h o q)) ≡ (is_nothing q || any bad (path α (by_host p h o q)))
     unfolding by_host value path any says_not_known is_nothing
-    host_unknown o nothing = refl
-    host_unknown o (just q) =
+    host_unknown o None = refl
+    host_unknown o (Some q) =
         elim (same q o) as (λ b. says_not_known (value α (if b then done Agreement.Inside else confirm p h)) ≡ any bad (path α (if b then done Agreement.Inside else confirm p h))) [
           | true ↦ refl
           | false ↦ confirm_unknown
@@ -378,8 +377,8 @@ module _ (p h : Domain) where
 
     policy_unknown : (o : Option Domain) → says_not_known (value α (by_policy p h o)) ≡ (is_nothing o || any bad (path α (by_policy p h o)))
     unfolding by_policy value path any says_not_known is_nothing
-    policy_unknown nothing = refl
-    policy_unknown (just o) = walk_then h (by_host p h o) (host_unknown o (value α (organization h)))
+    policy_unknown None = refl
+    policy_unknown (Some o) = walk_then h (by_host p h o) (host_unknown o (value α (organization h)))
 
     check_unknown : says_not_known (value α (check p h)) ≡ any bad (path α (check p h))
     unfolding check value path any says_not_known

@@ -1,10 +1,8 @@
 -- Did the outside address agree? (document 02, Ask 11; RFC 9990, section 4)
-use Rattle.std.specs.Prelude.{List, [], ◌∷◌, ◌++◌, Bool, true, false, ◌&&◌, not, ℕ, ◌+◌, eqb, leb, length, take, if◌then◌else◌}
-use Rattle.std.proofs.Math.Option.{Option, none as nothing, some as just}
+use Rattle.std.specs.Prelude.{List, [], ◌∷◌, ◌++◌, Bool, true, false, ◌&&◌, not, ℕ, ◌+◌, eqb, leb, length, take, if◌then◌else◌, Some, None, Option}
 use Rattle.octets.specs.Octets.{Octets, octets, all, one_of, same, same_text, lower, split, trim}
 use Rattle.lookup.specs.Lookup.{Name, Lookups, done, look_up, reading, ◌>>=◌}
 use Rattle.domain.specs.Domain.{Domain, without_dot, is_domain}
-use Rattle.policy.specs.declared.Reading.{Reading}
 use Rattle.policy.specs.declared.Bounds.{Bounds}
 use Rattle.policy.specs.Reports.{valid_entry}
 use Rattle.policy.specs.Records.{read_policy, rua_text, rua_begin, rua_length}
@@ -16,13 +14,13 @@ use Rattle.address.specs.declared.Agreement.{Agreement}
 
 -- what follows the last occurrence of an octet
 unfoldable pub after_last : ℕ → Octets → Option Octets
-after_last c [] = nothing
-after_last c (x ∷ xs) = elim (after_last c xs) [ just rest ↦ just rest | nothing ↦ if eqb x c then just xs else nothing ]
+after_last c [] = None
+after_last c (x ∷ xs) = elim (after_last c xs) [ Some rest ↦ Some rest | None ↦ if eqb x c then Some xs else None ]
 
 -- "a domain after its last `@`"; "every domain we take" may have a final dot
 unfoldable pub host_in : Option Octets → Option Domain
-host_in nothing = nothing
-host_in (just s) = if is_domain (without_dot s) then just (lower (without_dot s)) else nothing
+host_in None = None
+host_in (Some s) = if is_domain (without_dot s) then Some (lower (without_dot s)) else None
 
 -- not "an entry with a comma or not a valid `mailto:`"
 unfoldable pub is_mailto : Octets → Bool
@@ -30,12 +28,12 @@ is_mailto e = not (one_of e 44) && valid_entry e && same_text (take 7 e) (octets
 
 -- the host of an entry that 23 lets through, "trimmed" as 01 trims every entry
 unfoldable pub host_of : Octets → Option Domain
-host_of e = if is_mailto (trim e) then host_in (after_last 64 (trim e)) else nothing
+host_of e = if is_mailto (trim e) then host_in (after_last 64 (trim e)) else None
 
 -- one more in front, where there is one
 unfoldable pub add_host : Option Domain → List Domain → List Domain
-add_host nothing hs = hs
-add_host (just h) hs = h ∷ hs
+add_host None hs = hs
+add_host (Some h) hs = h ∷ hs
 
 -- the hosts of entries that have one, in their order
 unfoldable pub hosts_of : List Octets → List Domain
@@ -59,13 +57,13 @@ by_hosts h at t (x ∷ xs) others =
 unfoldable pub agreement : (host : Domain) → (at : ℕ) → (one : Bool) → List Octets → Agreement
 agreement h at one [] = if one then Agreement.Confirmed else Agreement.PlainNo
 agreement h at one (t ∷ ts) = elim (read_policy t) [
-  | Reading.Record s ↦ by_hosts h at t (rua_hosts (rua_text t)) (agreement h (at + length t) true ts)
-  | Reading.NoRecord ↦ agreement h (at + length t) one ts
+  | Some s ↦ by_hosts h at t (rua_hosts (rua_text t)) (agreement h (at + length t) true ts)
+  | None ↦ agreement h (at + length t) one ts
 ]
 
 -- "and whether the answer confirms it"; "an error not known"; an answer that cannot be read is refused and never kept: were it kept, it would be an error
 unfoldable pub confirmation : (host : Domain) → Answer → Agreement
-confirmation h (records bytes) = elim (texts_read bytes) [ nothing ↦ Agreement.NotKnown | just ts ↦ agreement h 0 false ts ]
+confirmation h (records bytes) = elim (texts_read bytes) [ None ↦ Agreement.NotKnown | Some ts ↦ agreement h 0 false ts ]
 confirmation h no_records = Agreement.PlainNo
 confirmation h lookup_error = Agreement.NotKnown
 
@@ -90,12 +88,12 @@ organization d = reading reply (organizational_domain d)
 
 -- "equal organizational domains .., policy domain first; an error in either gives not known, and after it nothing more is asked"
 unfoldable pub by_host : (policy host : Domain) → Domain → Option Domain → Lookups Answer Agreement
-by_host p h o nothing = done Agreement.NotKnown
-by_host p h o (just q) = if same q o then done Agreement.Inside else confirm p h
+by_host p h o None = done Agreement.NotKnown
+by_host p h o (Some q) = if same q o then done Agreement.Inside else confirm p h
 
 unfoldable pub by_policy : (policy host : Domain) → Option Domain → Lookups Answer Agreement
-by_policy p h nothing = done Agreement.NotKnown
-by_policy p h (just o) = do
+by_policy p h None = done Agreement.NotKnown
+by_policy p h (Some o) = do
   q ← organization h
   by_host p h o q
 

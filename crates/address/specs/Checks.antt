@@ -1,6 +1,5 @@
 -- "a second kind of run": the calls of an address check, and their book, an instance of `asking` (document 02, Ask 11).
-use Rattle.std.specs.Prelude.{[], not}
-use Rattle.std.proofs.Math.Option.{Option, none as nothing, some as just}
+use Rattle.std.specs.Prelude.{[], not, Option, None, Some}
 use Rattle.octets.specs.Octets.{Octets, lower}
 use Rattle.octets.specs.Refusing.{◌>>=◌, OrRefused, ok, not_ok, refusal, refuse_if, or_refuse}
 use Rattle.lookup.specs.Lookup.{Lookups}
@@ -37,14 +36,14 @@ pub record CheckBook : Type 0 where
   pub run : Asking Answer
 
 unfoldable pub nothing_started : CheckBook
-nothing_started = record { pair = nothing; run = begun }
+nothing_started = record { pair = None; run = begun }
 
 unfoldable pub check_lookups : Pair → Lookups Answer Agreement
 check_lookups c = check c.policy c.host
 
 -- a start that is accepted begins another check
 unfoldable pub start_by : CheckBook → OrRefused Pair → CheckBook × Given Agreement
-start_by b (ok c) = (record { pair = just c; run = begun }, given accepted [])
+start_by b (ok c) = (record { pair = Some c; run = begun }, given accepted [])
 start_by b (not_ok f) = (b, given (refused f) [])
 
 unfoldable pub with_run : CheckBook → Asking Answer × Given Agreement → CheckBook × Given Agreement
@@ -52,12 +51,12 @@ with_run b x = (record { pair = b.pair; run = x.0 }, x.1)
 
 -- 7 "where nothing was started"
 unfoldable pub next_of : CheckBook → Option Pair → CheckBook × Given Agreement
-next_of b nothing = (b, given (refused (refusal 7 0)) [])
-next_of b (just c) = with_run b (next_step (check_lookups c) b.run)
+next_of b None = (b, given (refused (refusal 7 0)) [])
+next_of b (Some c) = with_run b (next_step (check_lookups c) b.run)
 
 unfoldable pub result_in : CheckBook → Option Pair → Given Agreement
-result_in b nothing = given (refused (refusal 7 0)) []
-result_in b (just c) = result_of (check_lookups c) b.run
+result_in b None = given (refused (refusal 7 0)) []
+result_in b (Some c) = result_of (check_lookups c) b.run
 
 -- "Refused, it stays as it is"
 unfoldable pub check_call : CheckBook → CheckCall → CheckBook × Given Agreement

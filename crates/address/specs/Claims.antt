@@ -1,6 +1,5 @@
 -- What is claimed of every address check (the mission, demand 3; document 02, Ask 11).
-use Rattle.std.specs.Prelude.{◌≡◌, List, [], ◌∷◌, ◌++◌, Bool, true, false, ◌&&◌, ◌||◌, not, ◌≤◌, ◌<◌, leb, length}
-use Rattle.std.proofs.Math.Option.{Option, none as nothing, some as just}
+use Rattle.std.specs.Prelude.{◌≡◌, List, [], ◌∷◌, ◌++◌, Bool, true, false, ◌&&◌, ◌||◌, not, ◌≤◌, ◌<◌, leb, length, Option, None, Some}
 use Rattle.octets.specs.Octets.{Octets, is_nothing, any, same}
 use Rattle.octets.specs.declared.Refusal.{Refusal}
 use Rattle.lookup.specs.Lookup.{Name, value, member, once, list, has}
@@ -16,9 +15,9 @@ use Rattle.address.specs.Checks.{CheckCall, start, next, result, answer, Pair, C
 -- ------------------------------------------------------------------ the names of one check, over an answer for every name
 
 unfoldable pub equal_known : (policy host : Option Domain) → Bool
-equal_known (just o) (just q) = same q o
-equal_known (just o) nothing = false
-equal_known nothing q = false
+equal_known (Some o) (Some q) = same q o
+equal_known (Some o) None = false
+equal_known None q = false
 
 -- "Inside means equal domains, .. or equal organizational domains by the walks of 01"
 unfoldable pub is_inside : (α : Name → Answer) → (policy host : Domain) → Bool
@@ -99,14 +98,14 @@ pub record CheckClaims (cs : List CheckCall) : Type 0 where
   -- the names that calls were given to ask, each once, are those that the book has as asked
   pub asked : asked_names (check_book cs).run ≡ once [] (names_since [] cs (check_gave cs))
   -- what is claimed of every run by calls
-  pub of_its_run : (c : Pair) → (check_book cs).pair ≡ just c → AskingClaims (check_lookups c) (check_book cs).run
+  pub of_its_run : (c : Pair) → (check_book cs).pair ≡ Some c → AskingClaims (check_lookups c) (check_book cs).run
   -- "at most 17 in all"
   pub at_most_17 : count (check_book cs).run ≤ 17
   -- "the confirming name last", of the names asked so far too
-  pub last : (c : Pair) → (check_book cs).pair ≡ just c → member (confirming_name c.policy c.host) (asked_names (check_book cs).run) ≡ true
+  pub last : (c : Pair) → (check_book cs).pair ≡ Some c → member (confirming_name c.policy c.host) (asked_names (check_book cs).run) ≡ true
       → (ns : List Name) × (asked_names (check_book cs).run ≡ ns ++ (confirming_name c.policy c.host ∷ []))
   -- "an error .. gives not known, and after it nothing more is asked"
-  pub after_an_error : (c : Pair) → (check_book cs).pair ≡ just c → any (λ x. is_error (reply x.1)) (check_book cs).run.taken ≡ true
+  pub after_an_error : (c : Pair) → (check_book cs).pair ≡ Some c → any (λ x. is_error (reply x.1)) (check_book cs).run.taken ≡ true
       → standing (check_lookups c) (check_book cs).run ≡ has Agreement.NotKnown
   -- "A refusal leaves the evaluation and lent memory unchanged"
   pub refused_stands : (c : CheckCall) (f : Refusal) → (check_call (check_book cs) c).1.back ≡ refused f

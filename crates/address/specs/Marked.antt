@@ -1,8 +1,6 @@
 -- Tables that hold the rules to examples (document 02, Ask 11): checks by their calls, what an answer says, the host of an entry.
-use Rattle.std.specs.Prelude.{◌≡◌, ℕ, suc, length, replicate}
+use Rattle.std.specs.Prelude.{◌≡◌, ℕ, suc, length, replicate, option_map, Option, None, Some}
 use mathlib.Core.List.{List, [], ◌∷◌, ◌++◌, map, flatten}
-use Rattle.std.proofs.Math.Option
-use Rattle.std.proofs.Math.Option.{Option, none as nothing, some as just}
 use Prim.Native.String.{String}
 use Rattle.octets.specs.Octets.{Octets, octets}
 use Rattle.octets.specs.Refusing.{refusal}
@@ -217,19 +215,19 @@ MarkedAnswers =
 unfoldable pub host_table : List (String × Option String)
 host_table =
     -- "an entry with a comma"
-    ("mailto:r@red.net,mailto:s@red.net", nothing)
+    ("mailto:r@red.net,mailto:s@red.net", None)
     -- "or not a valid `mailto:`"
-    ∷ ("mailto:r!1@red.net", nothing)
-    ∷ ("mailto:a b@red.net", nothing)
-    ∷ ("mailto:%zz@red.net", nothing)
+    ∷ ("mailto:r!1@red.net", None)
+    ∷ ("mailto:a b@red.net", None)
+    ∷ ("mailto:%zz@red.net", None)
     -- "with a domain after its last `@`"
-    ∷ ("mailto:r@red.net..", nothing)
-    ∷ ("mailto:r@", nothing)
-    ∷ ("mailto:@red.net", just "red.net")
-    ∷ ("mailto:x@y?z=w@b", just "b")
+    ∷ ("mailto:r@red.net..", None)
+    ∷ ("mailto:r@", None)
+    ∷ ("mailto:@red.net", Some "red.net")
+    ∷ ("mailto:x@y?z=w@b", Some "b")
     -- trimmed, in either case, with a final dot
-    ∷ (" MAILTO:r@Red.net. ", just "red.net")
+    ∷ (" MAILTO:r@Red.net. ", Some "red.net")
     ∷ []
 
 unfoldable pub MarkedHosts : Type 0
-MarkedHosts = map (λ r. host_of (octets r.0)) host_table ≡ map (λ r. Option.map octets r.1) host_table
+MarkedHosts = map (λ r. host_of (octets r.0)) host_table ≡ map (λ r. option_map octets r.1) host_table

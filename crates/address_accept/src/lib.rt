@@ -4,12 +4,9 @@
 ghost use Rattle.address_accept.specs.code.Accepting.{AcceptsInRoom, Settles};
 
 use address::Agreement;
-use address_check::Check;
+use address_check::{Check, MOST_REPLIES};
 use domain::Octet;
 use txt::Reply;
-
-// There is room for so many replies.
-const MOST_REPLIES: usize = 16;
 
 // The check with the reply kept, where there is room, to the name that a walk and a place mark, moved on from where it stood.
 pub fn accept(c: Check, walk: usize, place: Octet, r: Reply) -> Check

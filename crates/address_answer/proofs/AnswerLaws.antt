@@ -2,14 +2,13 @@
 use mathlib.Core.Path.{◌≡◌, refl, ap, ap₂, sym, ◌∙◌, subst}
 use mathlib.Core.List.{List, [], ◌∷◌, ◌++◌}
 use mathlib.Core.Bool.{Bool, true, false, ◌&&◌, ◌||◌, not, true≢false, false≢true, and-false}
-use mathlib.Core.Option.{Option, none as nothing, some as just, none-ne-some}
 use Prim.Native.Nat.{ℕ, ◌+◌, ◌≤◌, ◌<◌, min}
 use native.Mathlib.Omega.{arith}
 use native.Mathlib.Decide.{dec_le}
 use lib.Dec.{ltb}
 use lib.ListN.{length, drop}
 use borrow.Author.Tests.{lt-ltb, le-ltb, ltb-true}
-use Rattle.std.specs.Prelude.{if◌then◌else◌}
+use Rattle.std.specs.Prelude.{if◌then◌else◌, Result, Ok, Err, Option, None, Some}
 use Rattle.octets.specs.Octets.{Octets, is_set, lower, same_text}
 use Rattle.octets.specs.Refusing.{refusal}
 use Rattle.octets.specs.declared.Refusal.{Refusal}
@@ -20,7 +19,6 @@ use Rattle.domain.specs.declared.Octet.{Octet}
 use Rattle.domain.specs.Domain.{without_dot, asked_name}
 use Rattle.txt.specs.declared.Status.{Status}
 use Rattle.txt.specs.declared.Reply.{Reply}
-use Rattle.txt.specs.declared.Taken.{Taken}
 use Rattle.txt.specs.Answers.{Answer, answer_of}
 use Rattle.txt.specs.Taking.{taken, left_after, Takes}
 use Rattle.asking.specs.Asking.{accepted, refused, Given, given}
@@ -31,25 +29,24 @@ use Rattle.address.specs.Address.{confirmation, confirming_name}
 use Rattle.address.specs.Checks.{answer, Pair}
 use Rattle.address_check.specs.declared.CheckPoint.{CheckPoint}
 use Rattle.address_check.specs.declared.Check.{Check}
-use Rattle.address_check.specs.declared.CheckAcceptance.{CheckAcceptance}
 use Rattle.address_check.specs.Numbers.{pair_now, mark_in}
 use Rattle.address_check.specs.Promises.{changes_check, DoesCheck}
 use Rattle.address_check.specs.code.Cursor.{Cursor, on_policy, on_host, on_confirming, settled, answered_on, stands, needed, is_walk}
 use Rattle.address_check.specs.code.Machine.{Keeps, keeps_nothing, walking, confirming, keeping_at, keeping, answer_taken, has_room, answer_at, machine_call}
 use Rattle.address_check.specs.code.View.{cursor_in, replies_now, cursor_now, asked_now, view_by, view, acceptance_back}
 use Rattle.address_names.proofs.NameLaws.{on_a_walk}
-use Rattle.address_texts.specs.declared.Confirming.{Confirming}
 use Rattle.address_texts.specs.code.Confirming.{confirming_of, TakesConfirming}
 use Rattle.address_check.specs.code.Pairs.{both}
 use Rattle.address_asked.specs.declared.WaitedFor.{WaitedFor}
 use Rattle.address_asked.specs.code.Asked.{is_for, Waits}
 use Rattle.address_accept.specs.code.Accepting.{Accepts, AcceptsInRoom, Settles}
+use Rattle.std.proofs.lemmas.Option.{none-some}
 
 -- ------------------------------------------------------------------ what is kept
 
 -- of a started check in which no name is asked
 unfoldable quiet : Check → Keeps
-quiet x = record { pair = just (pair_now x); replies = replies_now x; confirmed = is_set x.confirmed; asked = nothing; at = cursor_now x }
+quiet x = record { pair = Some (pair_now x); replies = replies_now x; confirmed = is_set x.confirmed; asked = None; at = cursor_now x }
 
 quiet_view : (x : Check) → is_set x.started ≡ true → x.asked ≡ 0 → view x ≡ quiet x
 unfolding view view_by asked_now quiet
@@ -60,18 +57,18 @@ unfolding pair_now
 same_pair x y d n = rw (d, n)
 
 made : {P Q : Pair} {ρ σ : Answers Reply} {x y : Bool} {c d : Cursor} → P ≡ Q → ρ ≡ σ → x ≡ y → c ≡ d
-    → ◌≡◌ {A = Keeps} (record { pair = just P; replies = ρ; confirmed = x; asked = nothing; at = c }) (record { pair = just Q; replies = σ; confirmed = y; asked = nothing; at = d })
+    → ◌≡◌ {A = Keeps} (record { pair = Some P; replies = ρ; confirmed = x; asked = None; at = c }) (record { pair = Some Q; replies = σ; confirmed = y; asked = None; at = d })
 made a b c d = rw (a, b, c, d)
 
-refused_taken : (h : Octets) (a : Answer) (t : Taken) (f : Refusal) → Confirming.Refused f ≡ confirming_of h a t → t ≡ Taken.Refused f
+refused_taken : (h : Octets) (a : Answer) (t : Result Reply Refusal) (f : Refusal) → Err f ≡ confirming_of h a t → t ≡ Err f
 unfolding confirming_of
-refused_taken h a (Taken.Refused g) f e = ap Taken.Refused cc
-refused_taken h a (Taken.Reply r) f e = absurd (true→T {b = false} (cc e))
+refused_taken h a (Err g) f e = ap Err cc
+refused_taken h a (Ok r) f e = absurd (true→T {b = false} (cc e))
 
-says_taken : (h : Octets) (a : Answer) (t : Taken) (g : Agreement) → Confirming.Says g ≡ confirming_of h a t → (r : Reply) × (t ≡ Taken.Reply r) × (g ≡ confirmation h a)
+says_taken : (h : Octets) (a : Answer) (t : Result Reply Refusal) (g : Agreement) → Ok g ≡ confirming_of h a t → (r : Reply) × (t ≡ Ok r) × (g ≡ confirmation h a)
 unfolding confirming_of
-says_taken h a (Taken.Refused f) g e = absurd (true→T {b = false} (cc e))
-says_taken h a (Taken.Reply r) g e = (r, refl, cc)
+says_taken h a (Err f) g e = absurd (true→T {b = false} (cc e))
+says_taken h a (Ok r) g e = (r, refl, cc)
 
 module _ (e : Check) (full : length e.kept ≡ 48) where
   abbrev room_in : Bool
@@ -105,8 +102,8 @@ module _ (e : Check) (full : length e.kept ≡ 48) where
 
     by_asked : (o : Option Name) → (room_in && is_for name o) ≡ false → (k : Keeps) → has_room k ≡ room_in → answer_at k name a scratch o ≡ (k, given (refused (refusal 5 0)) scratch)
     unfolding answer_at is_for
-    by_asked nothing f k r = refl
-    by_asked (just n) f k r = rw r (go (room_in) (same_text (without_dot name) n) f)
+    by_asked None f k r = refl
+    by_asked (Some n) f k r = rw r (go (room_in) (same_text (without_dot name) n) f)
       where
         go : (b t : Bool) → (b && t) ≡ false → (if t && b then answer_taken k n a (left_after a scratch) (taken a scratch) else (k, given (refused (refusal 5 0)) scratch)) ≡ (k, given (refused (refusal 5 0)) scratch)
         go true true f = absurd (true≢false f)
@@ -117,7 +114,7 @@ module _ (e : Check) (full : length e.kept ≡ 48) where
     asked_by : (b : Bool) → ((b && room_in) && is_for name (needed (stands (pair_now e) (cursor_now e)))) ≡ false → (k : Keeps) → has_room k ≡ room_in
         → answer_at k name a scratch (asked_now e b) ≡ (k, given (refused (refusal 5 0)) scratch)
     unfolding asked_now is_for
-    asked_by false f k r = by_asked nothing (and-false (room_in)) k r
+    asked_by false f k r = by_asked None (and-false (room_in)) k r
     asked_by true f k r = by_asked (needed (stands (pair_now e) (cursor_now e))) f k r
 
     room_now : has_room (view_by e true) ≡ room_in
@@ -140,7 +137,7 @@ module _ (e : Check) (full : length e.kept ≡ 48) where
       unfolding view
       view_now = ap (view_by e) (live_parts l).0
 
-      asked_it : (view e).asked ≡ just n
+      asked_it : (view e).asked ≡ Some n
       unfolding view_by asked_now needed
       asked_it = ap (λ (k : Keeps). k.asked) view_now ∙ ap (asked_now e) (live_parts l).1 ∙ ap needed q
 
@@ -155,7 +152,7 @@ module _ (e : Check) (full : length e.kept ≡ 48) where
           ∙ ap₂ (λ (x y : Bool). if x && y then answer_taken (view e) n a (left_after a scratch) (taken a scratch) else (view e, given (refused (refusal 5 0)) scratch)) named_so (ap has_room view_now ∙ room_now ∙ (live_parts l).2)
 
       -- refused 6 or 10
-      pub taken_refused : (r : Refusal) → taken a scratch ≡ Taken.Refused r → answer_at (view e) name a scratch (view e).asked ≡ (view e, given (refused r) (left_after a scratch))
+      pub taken_refused : (r : Refusal) → taken a scratch ≡ Err r → answer_at (view e) name a scratch (view e).asked ≡ (view e, given (refused r) (left_after a scratch))
       unfolding answer_taken
       taken_refused r g = now_taken ∙ ap (answer_taken (view e) n a (left_after a scratch)) g
 
@@ -163,7 +160,7 @@ module _ (e : Check) (full : length e.kept ≡ 48) where
       unfolding keeping view_by
       inner r = ap (λ o. keeping (view e) o n a r) (ap (λ (k : Keeps). k.pair) view_now) ∙ ap (keeping_at (view e) (pair_now e) n a r) (ap (λ (k : Keeps). k.at) view_now)
 
-      kept_by : (r : Reply) → taken a scratch ≡ Taken.Reply r → answer_at (view e) name a scratch (view e).asked ≡ (keeping_at (view e) (pair_now e) n a r (cursor_now e), given accepted (left_after a scratch))
+      kept_by : (r : Reply) → taken a scratch ≡ Ok r → answer_at (view e) name a scratch (view e).asked ≡ (keeping_at (view e) (pair_now e) n a r (cursor_now e), given accepted (left_after a scratch))
       unfolding answer_taken
       kept_by r g = now_taken ∙ ap (answer_taken (view e) n a (left_after a scratch)) g ∙ ap (λ k. (k, given accepted (left_after a scratch))) (inner r)
 
@@ -199,7 +196,7 @@ module _ (e : Check) (full : length e.kept ≡ 48) where
 -- ------------------------------------------------------------------ what each return promises
 
 module _ (e : Check) (full : length e.kept ≡ 48) (name : Octets) (status : Status) (bytes scratch : Octets) {live : Bool} (v : live ≡ live_in e full) where
-  pub answer_not_now : Waits (pair_now e) e.point live name WaitedFor.Nothing → DoesCheck e (answer name status bytes scratch) e (given (acceptance_back (CheckAcceptance.Refused (refusal 5 0))) scratch)
+  pub answer_not_now : Waits (pair_now e) e.point live name WaitedFor.Nothing → DoesCheck e (answer name status bytes scratch) e (given (acceptance_back (Err (refusal 5 0))) scratch)
   unfolding machine_call acceptance_back Waits cursor_now
   answer_not_now w =
       let by = not_now e full name (answer_of status bytes) scratch (rw v at w) in
@@ -210,14 +207,14 @@ module _ (e : Check) (full : length e.kept ≡ 48) (name : Octets) (status : Sta
     unfolding Waits cursor_now
     walk_few = few e full (sym v ∙ w.0) w.2
 
-    pub walk_refused : (f : Refusal) → Takes (answer_of status bytes) scratch (Taken.Refused f) after → DoesCheck e (answer name status bytes scratch) e (given (acceptance_back (CheckAcceptance.Refused f)) after)
+    pub walk_refused : (f : Refusal) → Takes (answer_of status bytes) scratch (Err f) after → DoesCheck e (answer name status bytes scratch) e (given (acceptance_back (Err f)) after)
     unfolding machine_call acceptance_back Waits cursor_now
     walk_refused f k =
         let by = taken_refused e full name (answer_of status bytes) scratch (sym v ∙ w.0) (mark_in (pair_now e) walk place) w.4 w.1 f (sym k.answers) in
         record { leaves = sym (ap (λ x. x.0) by); gives = ap (given (refused f)) k.leaves ∙ sym (ap (λ x. x.1) by); stands = λ x. refl; same_domains = λ x. (refl, refl) }
 
-    pub walk_accepted : (r : Reply) → Takes (answer_of status bytes) scratch (Taken.Reply r) after → (c : Check) → AcceptsInRoom e walk place r c
-        → DoesCheck e (answer name status bytes scratch) c (given (acceptance_back CheckAcceptance.Accepted) after)
+    pub walk_accepted : (r : Reply) → Takes (answer_of status bytes) scratch (Ok r) after → (c : Check) → AcceptsInRoom e walk place r c
+        → DoesCheck e (answer name status bytes scratch) c (given (acceptance_back (Ok tt)) after)
     unfolding machine_call acceptance_back Waits cursor_now changes_check
     walk_accepted r k c in_room =
         let x = in_room.accepts walk_few in
@@ -234,14 +231,14 @@ module _ (e : Check) (full : length e.kept ≡ 48) (name : Octets) (status : Sta
     unfolding Waits cursor_now stands
     at_it = ap (stands (pair_now e)) w.2
 
-    pub confirming_refused : (f : Refusal) → TakesConfirming (answer_of status bytes) (lower h) scratch (Confirming.Refused f) after → DoesCheck e (answer name status bytes scratch) e (given (acceptance_back (CheckAcceptance.Refused f)) after)
+    pub confirming_refused : (f : Refusal) → TakesConfirming (answer_of status bytes) (lower h) scratch (Err f) after → DoesCheck e (answer name status bytes scratch) e (given (acceptance_back (Err f)) after)
     unfolding machine_call acceptance_back Waits cursor_now
     confirming_refused f k =
         let by = taken_refused e full name (answer_of status bytes) scratch (sym v ∙ w.0) _ at_it w.1 f (refused_taken (lower h) (answer_of status bytes) (taken (answer_of status bytes) scratch) f k.answers) in
         record { leaves = sym (ap (λ x. x.0) by); gives = ap (given (refused f)) k.leaves ∙ sym (ap (λ x. x.1) by); stands = λ x. refl; same_domains = λ x. (refl, refl) }
 
-    pub confirming_accepted : (g : Agreement) → TakesConfirming (answer_of status bytes) (lower h) scratch (Confirming.Says g) after → (c : Check) → Settles e g c
-        → DoesCheck e (answer name status bytes scratch) c (given (acceptance_back CheckAcceptance.Accepted) after)
+    pub confirming_accepted : (g : Agreement) → TakesConfirming (answer_of status bytes) (lower h) scratch (Ok g) after → (c : Check) → Settles e g c
+        → DoesCheck e (answer name status bytes scratch) c (given (acceptance_back (Ok tt)) after)
     unfolding machine_call acceptance_back Waits cursor_now changes_check
     confirming_accepted g k c x =
         let (r, t, y) = says_taken (lower h) (answer_of status bytes) (taken (answer_of status bytes) scratch) g k.answers in

@@ -7,9 +7,8 @@ ghost use Rattle.address_check.specs.Promises.{DoesCheck};
 ghost use Rattle.address_check.specs.code.View.{acceptance_back};
 
 use address_asked::WaitedFor;
-use address_check::{Check, CheckAcceptance, CheckChanged};
-use address_texts::Confirming;
-use txt::{Status, Taken};
+use address_check::{Check, CheckChanged};
+use txt::Status;
 
 // An answer for the name now asked.
 pub fn answer(
@@ -26,19 +25,19 @@ pub fn answer(
     match address_asked::find_asked(&c.domains, &c.numbers, point, live, name) {
         WaitedFor::Nothing => address_start::refused(c, 5, 0),
         WaitedFor::Walk { walk, place } => match txt_take::take_answer(status, bytes, scratch) {
-            Taken::Refused(f) => address_start::refused(c, f.number, f.place),
-            Taken::Reply(r) => CheckChanged {
+            Err(f) => address_start::refused(c, f.number, f.place),
+            Ok(r) => CheckChanged {
                 check: address_accept::accept(c, walk, place, r),
-                acceptance: CheckAcceptance::Accepted,
+                acceptance: Ok(()),
             },
         },
         WaitedFor::Confirming => {
             let host = alignment_stored::slot(&c.domains, &c.numbers, 1);
             match address_texts::take_confirming(status, bytes, host, scratch) {
-                Confirming::Refused(f) => address_start::refused(c, f.number, f.place),
-                Confirming::Says(a) => CheckChanged {
+                Err(f) => address_start::refused(c, f.number, f.place),
+                Ok(a) => CheckChanged {
                     check: address_accept::settle(c, a),
-                    acceptance: CheckAcceptance::Accepted,
+                    acceptance: Ok(()),
                 },
             }
         }

@@ -26,10 +26,7 @@ pub enum WaitedFor {
 pub fn is_live(started: u8, asked: u8, count: usize, p: CheckPoint) -> bool
     ensures { (c : Pair) → result ≡ (is_set started && (is_set asked && (not (is_walk (cursor_in c p)) || ltb count 16))) }
 {
-    if started == 0 {
-        return false;
-    }
-    if asked == 0 {
+    if started == 0 || asked == 0 {
         return false;
     }
     address_point::has_room(p, count)
@@ -54,12 +51,12 @@ pub fn find_asked<'a>(
             let policy = alignment_stored::slot(domains, numbers, 0);
             let host = alignment_stored::slot(domains, numbers, 1);
             if !address_names::is_marked(name, policy, host, walk, place) {
-                return WaitedFor::Nothing;
+                WaitedFor::Nothing
+            } else if 1 < walk {
+                WaitedFor::Confirming
+            } else {
+                WaitedFor::Walk { walk, place }
             }
-            if 1 < walk {
-                return WaitedFor::Confirming;
-            }
-            WaitedFor::Walk { walk, place }
         }
     }
 }

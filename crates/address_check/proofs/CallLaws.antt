@@ -2,12 +2,11 @@
 use mathlib.Core.Path.{◌≡◌, refl, ap, ap₂, sym, ◌∙◌}
 use mathlib.Core.List.{List, [], ◌∷◌, ◌++◌}
 use mathlib.Core.Bool.{Bool, true, false, ◌&&◌, true≢false}
-use mathlib.Core.Option.{Option, none as nothing, some as just}
 use Prim.Native.Nat.{ℕ, ◌+◌, ◌≤◌, ◌<◌, min}
 use native.Mathlib.Omega.{arith}
 use lib.Dec.{ltb}
 use lib.ListN.{length}
-use Rattle.std.specs.Prelude.{if◌then◌else◌}
+use Rattle.std.specs.Prelude.{if◌then◌else◌, Ok, Err, Option, None, Some}
 use Rattle.octets.specs.Octets.{Octets, is_set}
 use Rattle.octets.specs.Refusing.{OrRefused, ok, not_ok, refusal}
 use Rattle.octets.specs.declared.Refusal.{Refusal}
@@ -16,7 +15,6 @@ use Rattle.domain.specs.declared.Octet.{Octet}
 use Rattle.domain.specs.Domain.{without_dot}
 use Rattle.txt.specs.declared.Status.{Status}
 use Rattle.txt.specs.declared.Reply.{Reply}
-use Rattle.txt.specs.declared.Taken.{Taken}
 use Rattle.txt.specs.Answers.{Answer, answer_of}
 use Rattle.txt.specs.Taking.{taken, left_after}
 use Rattle.asking.specs.Asking.{Back, ask_name, verdict, accepted, refused, given}
@@ -25,8 +23,6 @@ use Rattle.address.specs.declared.Agreement.{Agreement}
 use Rattle.address.specs.Checks.{CheckCall, start, next, result, answer, Pair, check_started}
 use Rattle.address_check.specs.declared.Check.{Check}
 use Rattle.address_check.specs.declared.CheckStep.{CheckStep}
-use Rattle.address_check.specs.declared.CheckResulting.{CheckResulting}
-use Rattle.address_check.specs.declared.CheckAcceptance.{CheckAcceptance}
 use Rattle.address_check.specs.code.Cursor.{Cursor, stands, needed}
 use Rattle.address_check.specs.code.Machine.{Keeps, keeps_nothing, keeps_started, count_of, start_by, now_asking, next_by, next_at, keeping, answer_taken, has_room, answer_at, outcome_by, outcome_at, result_back, machine_call}
 use Rattle.address_check.specs.Numbers.{pair_now, mark_in, check_name}
@@ -58,7 +54,7 @@ module _ (e : Check) where
   unfolding step_back
   next_not_started s = stays e next (unfold machine_call next_at view view_by keeps_nothing in rw s)
 
-  pub result_not_started : is_set e.started ≡ false → DoesCheck e result e (given (resulting_back (CheckResulting.Refused (refusal 7 0))) [])
+  pub result_not_started : is_set e.started ≡ false → DoesCheck e result e (given (resulting_back (Err (refusal 7 0))) [])
   unfolding resulting_back
   result_not_started s = stays e result (unfold machine_call outcome_at result_back view view_by keeps_nothing in rw s)
 
@@ -94,21 +90,21 @@ module _ (e : Check) where
       unfolding step_back
       next_outcome = stays e next (at_next ∙ (unfold next_by in ap (next_by (view e)) (sym f) ∙ ap (λ i. (view e, given (verdict a i) [])) (sym c)))
 
-      pub result_outcome : DoesCheck e result e (given (resulting_back (CheckResulting.Outcome (record { agreement = a; count = n }))) [])
+      pub result_outcome : DoesCheck e result e (given (resulting_back (Ok (record { agreement = a; count = n }))) [])
       unfolding resulting_back
       result_outcome = stays e result (at_result ∙ (unfold outcome_by result_back in ap (λ u. (view e, given (result_back (count_of (view e)) (outcome_by u)) [])) (sym f) ∙ ap (λ i. (view e, given (verdict a i) [])) (sym c)))
 
-    pub result_lacking : (n : Name) → needs n ≡ stands (pair_now e) (cursor_now e) → DoesCheck e result e (given (resulting_back (CheckResulting.Refused (refusal 7 0))) [])
+    pub result_lacking : (n : Name) → needs n ≡ stands (pair_now e) (cursor_now e) → DoesCheck e result e (given (resulting_back (Err (refusal 7 0))) [])
     unfolding resulting_back
     result_lacking n f = stays e result (at_result ∙ (unfold outcome_by result_back in ap (λ u. (view e, given (result_back (count_of (view e)) (outcome_by u)) [])) (sym f)))
 
   -- ---------------------------------------------------------------- start
 
-  pub start_refused : (policy entry : Octets) (f : Refusal) → check_started policy entry ≡ not_ok f → DoesCheck e (start policy entry) e (given (acceptance_back (CheckAcceptance.Refused f)) [])
+  pub start_refused : (policy entry : Octets) (f : Refusal) → check_started policy entry ≡ not_ok f → DoesCheck e (start policy entry) e (given (acceptance_back (Err f)) [])
   unfolding acceptance_back
   start_refused policy entry f q = stays e (start policy entry) (unfold machine_call start_by in ap (start_by (view e)) q)
 
-  pub start_accepted : (policy entry : Octets) (c : Pair) → check_started policy entry ≡ ok c → (after : Check) → view after ≡ keeps_started c → DoesCheck e (start policy entry) after (given (acceptance_back CheckAcceptance.Accepted) [])
+  pub start_accepted : (policy entry : Octets) (c : Pair) → check_started policy entry ≡ ok c → (after : Check) → view after ≡ keeps_started c → DoesCheck e (start policy entry) after (given (acceptance_back (Ok tt)) [])
   unfolding acceptance_back machine_call start_by changes_check is_start
   start_accepted policy entry c q after v = record {
     leaves = v ∙ sym (ap (λ (y : OrRefused Pair). (start_by (view e) y).0) q);

@@ -2,12 +2,11 @@
 use mathlib.Core.Path.{◌≡◌, refl, ap, sym, ◌∙◌, subst}
 use mathlib.Core.List.{List, [], ◌∷◌, ◌++◌, map-append}
 use mathlib.Core.Bool.{Bool, true, false, false≢true, true≢false}
-use mathlib.Core.Option.{Option, none as nothing, some as just, map}
 use Prim.Native.Nat.{◌+◌, ◌<◌, ◌≤◌}
 use native.Mathlib.Omega.{arith}
 use lib.Dec.{leb}
 use lib.ListN.{length, drop, length-drop}
-use Rattle.std.specs.Prelude.{if◌then◌else◌}
+use Rattle.std.specs.Prelude.{if◌then◌else◌, Option, None, Some, option_map}
 use Rattle.octets.specs.Octets.{same}
 use Rattle.lookup.specs.Lookup.{Name, Lookups, done, ask, reading, ◌>>=◌, Answers, find, needs, has, run, run_over}
 use Rattle.lookup.specs.code.Following.{Follows}
@@ -34,11 +33,11 @@ use Rattle.address_check.specs.code.Showing.{left, Waits, is_settled, KeptCursor
 
 -- ------------------------------------------------------------------ answers, read
 
-find_other : (β : Answers Answer) (c n : Name) (a : Answer) → find β c ≡ nothing → same c n ≡ false → find (β ++ ((n, a) ∷ [])) c ≡ nothing
+find_other : (β : Answers Answer) (c n : Name) (a : Answer) → find β c ≡ None → same c n ≡ false → find (β ++ ((n, a) ∷ [])) c ≡ None
 unfolding find
 find_other [] c n a e f = rw f
 find_other (p ∷ β) c n a e f =
-    (elim (same c p.0) as (λ b. (if b then just p.1 else find β c) ≡ nothing → (if b then just p.1 else find (β ++ ((n, a) ∷ [])) c) ≡ nothing) [
+    (elim (same c p.0) as (λ b. (if b then Some p.1 else find β c) ≡ None → (if b then Some p.1 else find (β ++ ((n, a) ∷ [])) c) ≡ None) [
       | true ↦ λ h. h
       | false ↦ λ h. find_other β c n a h f
     ]) e
@@ -47,14 +46,14 @@ find_other (p ∷ β) c n a e f =
 
 module _ (β : Answers Answer) (d : Domain) where
   -- a walk that has ended, in place of the walk
-  organizes : (w : Option Summary) → KeptWalk (replies β) d (ended w) → Follows β (organization d) (done (map (λ o. o.organization) w))
+  organizes : (w : Option Summary) → KeptWalk (replies β) d (ended w) → Follows β (organization d) (done (option_map (λ o. o.organization) w))
   unfolding organization run_over left_of run onward
   organizes w k = record {
     runs = λ γ.
         run_replies (β ++ γ) (organizational_domain d)
         ∙ ap (λ δ. run_over δ (organizational_domain d)) (replies_append β γ)
         ∙ organization_run (find (replies β ++ replies γ)) d
-        ∙ ap (λ u. onward u (λ o. has (map (λ s. s.organization) o))) (k.follows.runs (replies γ));
+        ∙ ap (λ u. onward u (λ o. has (option_map (λ s. s.organization) o))) (k.follows.runs (replies γ));
   }
 
   -- one that waits at a name
@@ -63,12 +62,12 @@ module _ (β : Answers Answer) (d : Domain) where
   waits_at f n e =
       run_bind (find β) (reading reply (organizational_domain d)) f
       ∙ ap (λ u. onward u (λ a. run (find β) (f a)))
-      (run_replies β (organizational_domain d) ∙ organization_run (find (replies β)) d ∙ ap (λ u. onward u (λ o. has (map (λ s. s.organization) o))) e)
+      (run_replies β (organizational_domain d) ∙ organization_run (find (replies β)) d ∙ ap (λ u. onward u (λ o. has (option_map (λ s. s.organization) o))) e)
 
   -- from its start
-  whole_walk : KeptReached (replies β) d (reach (replies β) d nothing (targets d))
+  whole_walk : KeptReached (replies β) d (reach (replies β) d None (targets d))
   unfolding not_begun
-  whole_walk = (reaching_claims (replies β) d).reaches nothing (targets d) (reaching_claims (replies β) d).begins.0 (reaching_claims (replies β) d).begins.1
+  whole_walk = (reaching_claims (replies β) d).reaches None (targets d) (reaching_claims (replies β) d).begins.0 (reaching_claims (replies β) d).begins.1
 
 -- a target is no longer than the domain of its walk
 target_short : (β : Answers Reply) (d : Domain) (q : Pause) → KeptReached β d (pauses q) → length q.target ≤ length d
@@ -78,7 +77,7 @@ target_short β d q k = let e = k.places.1.0 in omega (arith, ap length e, lengt
 -- ------------------------------------------------------------------ from name to name
 
 module _ (β : Answers Answer) (c : Pair) where
-  module _ (open_name : find β (confirming_name c.policy c.host) ≡ nothing) where
+  module _ (open_name : find β (confirming_name c.policy c.host) ≡ None) where
     confirms : Follows β (check_lookups c) (confirm c.policy c.host) → KeptCursor β c (confirm_on (replies β) c)
     unfolding confirm_on
     confirms f = go (leb (length (confirming_name c.policy c.host)) 253) refl
@@ -90,11 +89,11 @@ module _ (β : Answers Answer) (c : Pair) where
     host_moves : (o : Domain) → Follows β (check_lookups c) (organization c.host >>= by_host c.policy c.host o) → (w : Reached) → KeptReached (replies β) c.host w → KeptCursor β c (host_reached (replies β) c o w)
     unfolding host_reached
     host_moves o f (pauses q) k = record { follows = unfold left in f; waits = unfold Waits in k; lacks = λ x. open_name }
-    host_moves o f (over nothing) k =
-        record { follows = unfold left by_host ◌>>=◌ in follows_on f (follows_bind (organizes β c.host nothing (unfold progress_of in k.walk)) (λ a. follows_self _)); waits = unfold Waits in tt; lacks = λ x. open_name }
-    host_moves o f (over (just s)) k = go (same s.organization o) refl (follows_on f (unfold ◌>>=◌ in follows_bind (organizes β c.host (just s) (unfold progress_of in k.walk)) (λ a. follows_self _)))
+    host_moves o f (over None) k =
+        record { follows = unfold left by_host ◌>>=◌ in follows_on f (follows_bind (organizes β c.host None (unfold progress_of in k.walk)) (λ a. follows_self _)); waits = unfold Waits in tt; lacks = λ x. open_name }
+    host_moves o f (over (Some s)) k = go (same s.organization o) refl (follows_on f (unfold ◌>>=◌ in follows_bind (organizes β c.host (Some s) (unfold progress_of in k.walk)) (λ a. follows_self _)))
       where
-        go : (b : Bool) → same s.organization o ≡ b → Follows β (check_lookups c) (by_host c.policy c.host o (just s.organization))
+        go : (b : Bool) → same s.organization o ≡ b → Follows β (check_lookups c) (by_host c.policy c.host o (Some s.organization))
             → KeptCursor β c (if b then settled Agreement.Inside else confirm_on (replies β) c)
         go true e g = record { follows = follows_on g (follows_same (unfold left by_host in rw e)); waits = unfold Waits in tt; lacks = λ x. open_name }
         go false e g = confirms (follows_on g (follows_same (unfold by_host in rw e)))
@@ -102,16 +101,16 @@ module _ (β : Answers Answer) (c : Pair) where
     policy_moves : Follows β (check_lookups c) (organization c.policy >>= by_policy c.policy c.host) → (w : Reached) → KeptReached (replies β) c.policy w → KeptCursor β c (policy_reached (replies β) c w)
     unfolding policy_reached
     policy_moves f (pauses q) k = record { follows = unfold left in f; waits = unfold Waits in k; lacks = λ x. open_name }
-    policy_moves f (over nothing) k =
-        record { follows = unfold left by_policy ◌>>=◌ in follows_on f (follows_bind (organizes β c.policy nothing (unfold progress_of in k.walk)) (λ a. follows_self _)); waits = unfold Waits in tt; lacks = λ x. open_name }
-    policy_moves f (over (just s)) k =
-        host_moves s.organization (unfold by_policy ◌>>=◌ in follows_on f (follows_bind (organizes β c.policy (just s) (unfold progress_of in k.walk)) (λ a. follows_self _))) _ (whole_walk β c.host)
+    policy_moves f (over None) k =
+        record { follows = unfold left by_policy ◌>>=◌ in follows_on f (follows_bind (organizes β c.policy None (unfold progress_of in k.walk)) (λ a. follows_self _)); waits = unfold Waits in tt; lacks = λ x. open_name }
+    policy_moves f (over (Some s)) k =
+        host_moves s.organization (unfold by_policy ◌>>=◌ in follows_on f (follows_bind (organizes β c.policy (Some s) (unfold progress_of in k.walk)) (λ a. follows_self _))) _ (whole_walk β c.host)
 
     pub begins : KeptCursor β c (begin_on (replies β) c)
     unfolding begin_on
     begins = go (same c.host c.policy) refl
       where
-        go : (b : Bool) → same c.host c.policy ≡ b → KeptCursor β c (if b then settled Agreement.Inside else policy_reached (replies β) c (reach (replies β) c.policy nothing (targets c.policy)))
+        go : (b : Bool) → same c.host c.policy ≡ b → KeptCursor β c (if b then settled Agreement.Inside else policy_reached (replies β) c (reach (replies β) c.policy None (targets c.policy)))
         go true e = record { follows = follows_same (unfold check_lookups check left in rw e); waits = unfold Waits in tt; lacks = λ x. open_name }
         go false e = policy_moves (follows_same (unfold check_lookups check in rw e)) _ (whole_walk β c.policy)
 
@@ -132,8 +131,8 @@ module _ (β : Answers Answer) (c : Pair) where
     more = replies_append β ((n, a) ∷ [])
 
     -- the name of a target is not the confirming one
-    still_open : find β (confirming_name c.policy c.host) ≡ nothing → (t : Domain) → n ≡ asked_name t → 7 + length t < length (confirming_name c.policy c.host)
-        → find (β ++ ((n, a) ∷ [])) (confirming_name c.policy c.host) ≡ nothing
+    still_open : find β (confirming_name c.policy c.host) ≡ None → (t : Domain) → n ≡ asked_name t → 7 + length t < length (confirming_name c.policy c.host)
+        → find (β ++ ((n, a) ∷ [])) (confirming_name c.policy c.host) ≡ None
     still_open e t f l = find_other β (confirming_name c.policy c.host) n a e (ap (same (confirming_name c.policy c.host)) f ∙ other_name (confirming_name c.policy c.host) t l)
 
 -- the answer that it waited for moves it on
@@ -146,7 +145,7 @@ module _ (β : Answers Answer) (c : Pair) (n : Name) (a : Answer) where
       subst (λ δ. KeptReached δ d (reach_after δ d q (reply a))) (ap (λ m. replies β ++ ((m, reply a) ∷ [])) (sym f) ∙ sym (more β c n a)) ((reaching_claims (replies β) d).answers q k (reply a))
 
   -- and the confirming name goes on to have no answer
-  pub still_lacks : (x : Cursor) → KeptCursor β c x → is_walk x ≡ true → stands c x ≡ needs n → find after (confirming_name c.policy c.host) ≡ nothing
+  pub still_lacks : (x : Cursor) → KeptCursor β c x → is_walk x ≡ true → stands c x ≡ needs n → find after (confirming_name c.policy c.host) ≡ None
   unfolding is_walk stands is_settled Waits
   still_lacks (on_policy q) k w e =
       still_open β c n a (k.lacks refl) q.target (sym (needs_injective (asked_name q.target) n e)) (omega (arith, target_short (replies β) c.policy q k.waits, long_name c.policy c.host))

@@ -2,13 +2,12 @@
 use mathlib.Core.Path.{◌≡◌, refl, ap, ap₂, sym, ◌∙◌, subst}
 use mathlib.Core.List.{List, [], ◌∷◌, ◌++◌, append-nil}
 use mathlib.Core.Bool.{Bool, true, false, ◌&&◌, ◌||◌, not, true≢false, false≢true, and-true, and-false}
-use mathlib.Core.Option.{Option, none as nothing, some as just, none-ne-some, some-injective}
 use Prim.Native.Nat.{ℕ, suc, ◌+◌, ◌≤◌, ◌<◌}
 use native.Mathlib.Omega.{arith}
 use lib.Dec.{leb, ltb}
 use lib.ListN.{length, length-append}
 use borrow.Author.Tests.{lt-ltb}
-use Rattle.std.specs.Prelude.{if◌then◌else◌}
+use Rattle.std.specs.Prelude.{if◌then◌else◌, Result, Ok, Err, Option, None, Some}
 use Rattle.octets.specs.Octets.{Octets, lower, same_text, trim}
 use Rattle.octets.specs.Refusing.{◌>>=◌, OrRefused, ok, not_ok, refusal, refuse_if, or_refuse}
 use Rattle.octets.proofs.RefusingLaws.{refuse_if_ok, or_refuse_ok}
@@ -18,7 +17,6 @@ use Rattle.lookup.proofs.RunLaws.{find_not_member, names_append, needs_injective
 use Rattle.domain.specs.Domain.{without_dot, is_domain}
 use Rattle.txt.specs.declared.Status.{Status}
 use Rattle.txt.specs.Answers.{Answer, lookup_error, answer_of, texts, reply, scratch_after}
-use Rattle.txt.specs.declared.Taken.{Taken}
 use Rattle.txt.specs.Taking.{taken, left_after}
 use Rattle.asking.specs.Asking.{Back, verdict, accepted, refused, Given, given, Asking, begun, with_asked, kept, standing, now_asked, asked_names, count, next_by as book_next_by, next_step, take_texts, take_asked, take, result_by, result_of, replies}
 use Rattle.asking.specs.Claims.{AskingClaims, AskingClaimed}
@@ -36,6 +34,9 @@ use Rattle.address_check.specs.code.Machine.{Keeps, keeps_nothing, keeps_started
 use Rattle.address_check.specs.code.View.{view_by, view}
 use Rattle.address_check.specs.code.Showing.{KeptCursor, is_settled, Shows}
 use Rattle.address_check.proofs.CursorLaws.{begins, right, still_lacks, answers_confirming, answers_walk}
+use Rattle.txt.specs.declared.Reply.{Reply}
+use Rattle.octets.specs.declared.Refusal.{Refusal}
+use Rattle.std.proofs.lemmas.Option.{none-some, same_Some}
 
 -- what one call leaves and gives
 unfoldable pub Same : Keeps × Given Agreement → CheckBook × Given Agreement → Type 0
@@ -44,22 +45,22 @@ Same x y = Shows x.0 y.0 × (x.1 ≡ y.1)
 -- ------------------------------------------------------------------ start
 
 -- a host is in lower case
-host_lowered : (o : Option Octets) (h : Octets) → host_in o ≡ just h → lower h ≡ h
+host_lowered : (o : Option Octets) (h : Octets) → host_in o ≡ Some h → lower h ≡ h
 unfolding host_in
-host_lowered nothing h e = absurd (none-ne-some h e)
-host_lowered (just s) h e = go (is_domain (without_dot s)) e
+host_lowered None h e = absurd (none-some h e)
+host_lowered (Some s) h e = go (is_domain (without_dot s)) e
   where
-    go : (b : Bool) → (if b then just (lower (without_dot s)) else nothing) ≡ just h → lower h ≡ h
-    go true f = rw (← (some-injective (lower (without_dot s)) h f)) (lower_lower (without_dot s))
-    go false f = absurd (none-ne-some h f)
+    go : (b : Bool) → (if b then Some (lower (without_dot s)) else None) ≡ Some h → lower h ≡ h
+    go true f = rw (← (same_Some (lower (without_dot s)) h f)) (lower_lower (without_dot s))
+    go false f = absurd (none-some h f)
 
-entry_lowered : (entry h : Octets) → host_of entry ≡ just h → lower h ≡ h
+entry_lowered : (entry h : Octets) → host_of entry ≡ Some h → lower h ≡ h
 unfolding host_of
 entry_lowered entry h e = go (is_mailto (trim entry)) e
   where
-    go : (b : Bool) → (if b then host_in (after_last 64 (trim entry)) else nothing) ≡ just h → lower h ≡ h
+    go : (b : Bool) → (if b then host_in (after_last 64 (trim entry)) else None) ≡ Some h → lower h ≡ h
     go true f = host_lowered (after_last 64 (trim entry)) h f
-    go false f = absurd (none-ne-some h f)
+    go false f = absurd (none-some h f)
 
 started_lowered : (policy entry : Octets) (c : Pair) → check_started policy entry ≡ ok c → lower c.host ≡ c.host
 unfolding check_started
@@ -69,7 +70,7 @@ started_lowered policy entry c e =
     let same_host : h ≡ c.host = cc in
     subst (λ d. lower d ≡ d) same_host (entry_lowered entry h g)
 
-pub shows_started : (policy entry : Octets) (c : Pair) → check_started policy entry ≡ ok c → Shows (keeps_started c) (record { pair = just c; run = begun })
+pub shows_started : (policy entry : Octets) (c : Pair) → check_started policy entry ≡ ok c → Shows (keeps_started c) (record { pair = Some c; run = begun })
 unfolding keeps_started begun count_of names replies
 shows_started policy entry c e = record {
   pair = refl;
@@ -77,9 +78,9 @@ shows_started policy entry c e = record {
   counted = refl;
   same_replies = λ f. refl;
   at_its_end = λ f. absurd (false≢true f);
-  kept = λ d f. subst (λ x. KeptCursor [] x (begin_on [] c)) (some-injective c d f) (unfold find in begins [] c refl);
-  stands_at = λ d f n g. absurd (none-ne-some n g);
-  lowered = λ d f. subst (λ x. lower x.host ≡ x.host) (some-injective c d f) (started_lowered policy entry c e);
+  kept = λ d f. subst (λ x. KeptCursor [] x (begin_on [] c)) (same_Some c d f) (unfold find in begins [] c refl);
+  stands_at = λ d f n g. absurd (none-some n g);
+  lowered = λ d f. subst (λ x. lower x.host ≡ x.host) (same_Some c d f) (started_lowered policy entry c e);
 }
 
 pub shows_nothing : (e : Check) → e.started ≡ 0 → Shows (view e) nothing_started
@@ -90,9 +91,9 @@ shows_nothing e z = rw (flag_unset e.started z) (record {
   counted = refl;
   same_replies = λ f. refl;
   at_its_end = λ f. absurd (false≢true f);
-  kept = λ d f. absurd (none-ne-some d f);
-  stands_at = λ d f n g. absurd (none-ne-some d f);
-  lowered = λ d f. absurd (none-ne-some d f);
+  kept = λ d f. absurd (none-some d f);
+  stands_at = λ d f n g. absurd (none-some d f);
+  lowered = λ d f. absurd (none-some d f);
 })
 
 -- ------------------------------------------------------------------ one call
@@ -107,7 +108,7 @@ module _ (k : Keeps) (b : CheckBook) (s : Shows k b) (κ : Kept b) where
   unfolding count_of
   replies_few = omega arith
 
-  module _ (c : Pair) (e : b.pair ≡ just c) where
+  module _ (c : Pair) (e : b.pair ≡ Some c) where
     claims : AskingClaims (check_lookups c) b.run
     unfolding AskingClaimed
     claims = asking_claimed Answer Agreement (check_lookups c) b.run (κ.reached c e)
@@ -134,7 +135,7 @@ module _ (k : Keeps) (b : CheckBook) (s : Shows k b) (κ : Kept b) where
     c_name = confirming_name c.policy c.host
 
     -- on a walk there is room for one reply more: no name answered or asked so far is the confirming one, and without it there are 16 at the most
-    walk_room : (n : Name) → b.run.asked ≡ just n → is_walk k.at ≡ true → length (names b.run.taken) < 16
+    walk_room : (n : Name) → b.run.asked ≡ Some n → is_walk k.at ≡ true → length (names b.run.taken) < 16
     unfolding some_answers asked_names now_asked check_lookups names
     walk_room n f w = let (rest, g) = claims.until_then some_answers (completes b.run.taken (λ m. lookup_error)) in go rest g
       where
@@ -154,7 +155,7 @@ module _ (k : Keeps) (b : CheckBook) (s : Shows k b) (κ : Kept b) where
         go (x ∷ rest) g = omega (arith, ap length g, length-append (asked_names b.run) (x ∷ rest), one_more, most)
 
     -- there is room for an answer
-    room_shown : (n : Name) → b.run.asked ≡ just n → has_room k ≡ true
+    room_shown : (n : Name) → b.run.asked ≡ Some n → has_room k ≡ true
     unfolding has_room
     room_shown n f = go (is_walk k.at) refl
       where
@@ -172,7 +173,7 @@ module _ (k : Keeps) (b : CheckBook) (s : Shows k b) (κ : Kept b) where
         same_replies = s.same_replies;
         at_its_end = s.at_its_end;
         kept = s.kept;
-        stands_at = λ d g m h. subst (λ x. stands x k.at ≡ needs m) (some-injective c d (sym e ∙ g)) (sym stands_here ∙ f ∙ ap needs (some-injective n m h));
+        stands_at = λ d g m h. subst (λ x. stands x k.at ≡ needs m) (same_Some c d (sym e ∙ g)) (sym stands_here ∙ f ∙ ap needs (same_Some n m h));
         lowered = s.lowered;
       },
       refl,
@@ -186,7 +187,7 @@ module _ (k : Keeps) (b : CheckBook) (s : Shows k b) (κ : Kept b) where
 
     -- ---------------------------------------------------------------- an answer is kept for the name now asked
 
-    module _ (n : Name) (a : Answer) (f : b.run.asked ≡ just n) where
+    module _ (n : Name) (a : Answer) (f : b.run.asked ≡ Some n) where
       not_confirmed : is_settled k.at ≡ false → k.confirmed ≡ false
       not_confirmed g = go k.confirmed refl
         where
@@ -215,9 +216,9 @@ module _ (k : Keeps) (b : CheckBook) (s : Shows k b) (κ : Kept b) where
             counted = walk_counted;
             same_replies = λ h. now;
             at_its_end = λ h. absurd (false≢true (sym open_so ∙ h));
-            kept = λ d h. subst (λ x. KeptCursor (b.run.taken ++ ((n, a) ∷ [])) x (answered_on (k.replies ++ ((n, reply a) ∷ [])) c k.at (reply a))) (some-injective c d (sym e ∙ h))
+            kept = λ d h. subst (λ x. KeptCursor (b.run.taken ++ ((n, a) ∷ [])) x (answered_on (k.replies ++ ((n, reply a) ∷ [])) c k.at (reply a))) (same_Some c d (sym e ∙ h))
                 (subst (λ l. KeptCursor (b.run.taken ++ ((n, a) ∷ [])) c (answered_on l c k.at (reply a))) (sym now) (answers_walk b.run.taken c n a k.at (s.kept c e) w (s.stands_at c e n f)));
-            stands_at = λ d h m i. absurd (none-ne-some m i);
+            stands_at = λ d h m i. absurd (none-some m i);
             lowered = s.lowered;
           }
 
@@ -235,10 +236,10 @@ module _ (k : Keeps) (b : CheckBook) (s : Shows k b) (κ : Kept b) where
         counted = confirming_counted (not_confirmed (ap is_settled g));
         same_replies = λ h. absurd (true≢false h);
         at_its_end = λ h. refl;
-        kept = λ d h. subst (λ x. KeptCursor (b.run.taken ++ ((n, a) ∷ [])) x (settled (confirmation (lower c.host) a))) (some-injective c d (sym e ∙ h))
+        kept = λ d h. subst (λ x. KeptCursor (b.run.taken ++ ((n, a) ∷ [])) x (settled (confirmation (lower c.host) a))) (same_Some c d (sym e ∙ h))
             (subst (λ l. KeptCursor (b.run.taken ++ ((n, a) ∷ [])) c (settled (confirmation l a))) (sym (s.lowered c e))
             (answers_confirming b.run.taken c n a (subst (KeptCursor b.run.taken c) g (s.kept c e)) (sym (needs_injective _ n (ap (stands c) (sym g) ∙ s.stands_at c e n f)))));
-        stands_at = λ d h m i. absurd (none-ne-some m i);
+        stands_at = λ d h m i. absurd (none-some m i);
         lowered = s.lowered;
       }
 
@@ -258,19 +259,19 @@ module _ (k : Keeps) (b : CheckBook) (s : Shows k b) (κ : Kept b) where
       taken_simulates scratch = go (texts a)
         where
           go : (o : Option (List Octets)) → Same
-              (answer_taken k n a (elim o as (λ _. Octets) [ nothing ↦ scratch | just ts ↦ if leb 4096 (length scratch) then scratch_after ts scratch else scratch ])
-              (elim o as (λ _. Taken) [ nothing ↦ Taken.Refused (refusal 6 0) | just ts ↦ if leb 4096 (length scratch) then Taken.Reply (reply a) else Taken.Refused (refusal 10 4096) ]))
+              (answer_taken k n a (elim o as (λ _. Octets) [ None ↦ scratch | Some ts ↦ if leb 4096 (length scratch) then scratch_after ts scratch else scratch ])
+              (elim o as (λ _. (Result Reply Refusal)) [ None ↦ Err (refusal 6 0) | Some ts ↦ if leb 4096 (length scratch) then Ok (reply a) else Err (refusal 10 4096) ]))
               (with_run b (take_texts b.run n a scratch o))
-          go nothing = (s, refl)
-          go (just ts) = fit (leb 4096 (length scratch))
+          go None = (s, refl)
+          go (Some ts) = fit (leb 4096 (length scratch))
             where
               fit : (t : Bool) → Same
-                  (answer_taken k n a (if t then scratch_after ts scratch else scratch) (if t then Taken.Reply (reply a) else Taken.Refused (refusal 10 4096)))
+                  (answer_taken k n a (if t then scratch_after ts scratch else scratch) (if t then Ok (reply a) else Err (refusal 10 4096)))
                   (with_run b (if t then (kept b.run n a, given accepted (scratch_after ts scratch)) else (b.run, given (refused (refusal 10 4096)) scratch)))
               fit true = (keeping_shown, refl)
               fit false = (s, refl)
 
-      answer_named : (name scratch : Octets) → Same (answer_at k name a scratch (just n)) (with_run b (take_asked b.run name a a scratch (just n)))
+      answer_named : (name scratch : Octets) → Same (answer_at k name a scratch (Some n)) (with_run b (take_asked b.run name a a scratch (Some n)))
       unfolding Same answer_at take_asked with_run
       answer_named name scratch = rw (room_shown n f, and-true (same_text (without_dot name) n)) (go (same_text (without_dot name) n))
         where
@@ -281,23 +282,23 @@ module _ (k : Keeps) (b : CheckBook) (s : Shows k b) (κ : Kept b) where
           go false = (s, refl)
 
   -- something was started where a name is asked
-  started_pair : (n : Name) → b.run.asked ≡ just n → (o : Option Pair) → b.pair ≡ o → (c : Pair) × (b.pair ≡ just c)
+  started_pair : (n : Name) → b.run.asked ≡ Some n → (o : Option Pair) → b.pair ≡ o → (c : Pair) × (b.pair ≡ Some c)
   unfolding begun
-  started_pair n f nothing e = absurd (none-ne-some n (sym (ap (λ (r : Asking Answer). r.asked) (κ.unstarted e)) ∙ f))
-  started_pair n f (just c) e = (c, e)
+  started_pair n f None e = absurd (none-some n (sym (ap (λ (r : Asking Answer). r.asked) (κ.unstarted e)) ∙ f))
+  started_pair n f (Some c) e = (c, e)
 
   answer_simulates : (name : Octets) (a : Answer) (scratch : Octets) (o : Option Name) → b.run.asked ≡ o → Same (answer_at k name a scratch o) (with_run b (take_asked b.run name a a scratch o))
-  answer_simulates name a scratch nothing f = unfold Same answer_at take_asked with_run in (s, refl)
-  answer_simulates name a scratch (just n) f = let (c, e) = started_pair n f b.pair refl in answer_named c e n a f name scratch
+  answer_simulates name a scratch None f = unfold Same answer_at take_asked with_run in (s, refl)
+  answer_simulates name a scratch (Some n) f = let (c, e) = started_pair n f b.pair refl in answer_named c e n a f name scratch
 
   next_simulates : (o : Option Pair) → b.pair ≡ o → Same (next_at k o) (next_of b o)
-  next_simulates nothing e = unfold Same next_at next_of in (s, refl)
-  next_simulates (just c) e = unfold next_at next_of next_step in rw (← stands_here c e) (step_simulates c e (standing (check_lookups c) b.run) refl)
+  next_simulates None e = unfold Same next_at next_of in (s, refl)
+  next_simulates (Some c) e = unfold next_at next_of next_step in rw (← stands_here c e) (step_simulates c e (standing (check_lookups c) b.run) refl)
 
   outcome_simulates : (o : Option Pair) → b.pair ≡ o → given (result_back (count_of k) (outcome_at o k.at)) [] ≡ result_in b o
   unfolding outcome_at result_in result_back result_of
-  outcome_simulates nothing e = refl
-  outcome_simulates (just c) e = rw (← stands_here c e) (result_simulates c e (standing (check_lookups c) b.run) refl)
+  outcome_simulates None e = refl
+  outcome_simulates (Some c) e = rw (← stands_here c e) (result_simulates c e (standing (check_lookups c) b.run) refl)
 
   pub simulates : (x : CheckCall) → Same (machine_call k x) (check_call b x)
   unfolding machine_call check_call

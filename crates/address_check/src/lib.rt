@@ -7,6 +7,9 @@ use octets::Refusal;
 use policy::Bounds;
 use walk_stop::KeptStop;
 
+// The most replies that the two walks need, and for which there is room.
+pub const MOST_REPLIES: usize = 16;
+
 // Where a check stands: on the policy domain's walk, on the host's, at the confirming name, or at an outcome.
 #[derive(Clone, Copy)]
 pub enum PointKind {
@@ -70,25 +73,11 @@ pub struct CheckStepped {
     pub step: CheckStep,
 }
 
-// What a result is: the outcome, or a refusal.
-#[derive(Clone, Copy)]
-pub enum CheckResulting {
-    Outcome(CheckOutcome),
-    Refused(Refusal),
-}
-
-// Whether a call was accepted.
-#[derive(Clone, Copy)]
-pub enum CheckAcceptance {
-    Accepted,
-    Refused(Refusal),
-}
-
 // What a start or an answer gives: the check goes on from here.
 #[derive(Clone, Copy)]
 pub struct CheckChanged {
     pub check: Check,
-    pub acceptance: CheckAcceptance,
+    pub acceptance: Result<(), Refusal>,
 }
 
 // What a call gives, by numbers, for programs in other languages. Kind: accepted 0; ask the name of this walk and place 1;

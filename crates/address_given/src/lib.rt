@@ -8,7 +8,7 @@ ghost use Rattle.address_check.specs.Numbers.{agreement_number, instead_of, give
 ghost use Rattle.address_check.specs.code.View.{step_back, resulting_back, acceptance_back};
 
 use address::Agreement;
-use address_check::{CheckAcceptance, CheckGiven, CheckOutcome, CheckResulting, CheckStep};
+use address_check::{CheckGiven, CheckOutcome, CheckStep};
 use domain::Octet;
 use octets::Refusal;
 use policy::Bounds;
@@ -82,12 +82,12 @@ fn tell(o: CheckOutcome) -> CheckGiven
 }
 
 // What a start or an answer gives.
-pub fn number_acceptance(a: CheckAcceptance) -> CheckGiven
+pub fn number_acceptance(a: Result<(), Refusal>) -> CheckGiven
     ensures { (e : Check) → Tells e result (acceptance_back a) }
 {
     match a {
-        CheckAcceptance::Accepted => blank(0),
-        CheckAcceptance::Refused(f) => refuse(f),
+        Ok(()) => blank(0),
+        Err(f) => refuse(f),
     }
 }
 
@@ -108,11 +108,11 @@ pub fn number_step(s: CheckStep) -> CheckGiven
 }
 
 // What the result gives.
-pub fn number_resulting(x: CheckResulting) -> CheckGiven
+pub fn number_resulting(x: Result<CheckOutcome, Refusal>) -> CheckGiven
     ensures { (e : Check) → Tells e result (resulting_back x) }
 {
     match x {
-        CheckResulting::Outcome(o) => tell(o),
-        CheckResulting::Refused(f) => refuse(f),
+        Ok(o) => tell(o),
+        Err(f) => refuse(f),
     }
 }

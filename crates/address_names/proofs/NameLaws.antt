@@ -1,4 +1,5 @@
 -- Laws of the names of a check, as code compares and writes them.
+use Rattle.std.specs.Prelude.{Ok}
 use mathlib.Core.Path.{◌≡◌, refl, ap, sym, ◌∙◌}
 use mathlib.Core.Bool.{Bool, true, false, ◌&&◌}
 use mathlib.Core.List.{List, ◌++◌, append_assoc}
@@ -8,7 +9,6 @@ use lib.ListN.{length, take, drop, length-take, length-drop, length-append, take
 use lib.Seq.{drop-drop}
 use Rattle.octets.specs.Octets.{Octets, octets, same_text, part_of}
 use Rattle.octets.specs.Lent.{Writes}
-use Rattle.octets.specs.declared.Written.TheVariants.{Wrote}
 use Rattle.octets.proofs.TextLaws.{uneven, same_text_append}
 use Rattle.octets.proofs.PartLaws.{part_rest}
 use Rattle.octets_append.specs.code.Appending.{Appends}
@@ -50,7 +50,7 @@ module _ (name : Octets) (p h : Domain) where
 
 module _ (p h : Domain) (memory : Octets) (l : length p + 16 + length h ≤ length memory) where
   pub writes_confirming : {a b c : ℕ} {x y z : Octets} → Appends p 0 memory a x → Appends (octets "._report._dmarc.") a x b y → Appends h b y c z
-      → Writes (confirming_name p h) memory (Wrote c) z
+      → Writes (confirming_name p h) memory (Ok c) z
   unfolding confirming_name
   writes_confirming f g k =
       let size : length (p ++ octets "._report._dmarc." ++ h) ≡ length p + 16 + length h = long_name p h in

@@ -11,17 +11,14 @@ ghost use Rattle.address_check.specs.Numbers.{mark_in};
 ghost use Rattle.address_check.specs.code.Pairs.{both};
 
 use domain::Octet;
-use octets::{Refusal, Written};
+use octets::Refusal;
 
 // Whether a name is the confirming name, in either case.
 fn is_confirming<'a>(name: &'a [u8], policy: &'a [u8], host: &'a [u8]) -> bool
     ensures { result ≡ same_text name.now (confirming_name policy.now host.now) }
 {
-    if name.len() < policy.len() {
-        return false;
-    }
     let size = policy.len();
-    if name.len() - size < 16 {
+    if name.len() < size || name.len() - size < 16 {
         return false;
     }
     let next = size + 16;
@@ -53,21 +50,22 @@ pub fn is_marked<'a>(
 }
 
 // The confirming name of stored domains, into the front of lent memory.
-fn write_confirming<'a>(domains: &'a [u8], numbers: &'a [u16], out: &mut [u8]) -> Written
+fn write_confirming<'a>(
+    domains: &'a [u8],
+    numbers: &'a [u16],
+    out: &mut [u8],
+) -> Result<usize, Refusal>
     ensures { Writes (confirming_name (slot domains.now numbers.now 0) (slot domains.now numbers.now 1)) out.old result out.new }
 {
     let policy = alignment_stored::slot(domains, numbers, 0);
     let host = alignment_stored::slot(domains, numbers, 1);
     let n = policy.len() + 16 + host.len();
     if out.len() < n {
-        return Written::Refused(Refusal {
-            number: 10,
-            place: n,
-        });
+        return octets_write::too_short(n);
     }
     let first = octets_append::append(policy, 0, out);
     let second = octets_append::append(b"._report._dmarc.", first, out);
-    Written::Wrote(octets_append::append(host, second, out))
+    Ok(octets_append::append(host, second, out))
 }
 
 // The name that a walk and a place mark among stored domains, into the front of lent memory.
@@ -77,12 +75,13 @@ pub fn write_name<'a>(
     walk: usize,
     place: Octet,
     out: &mut [u8],
-) -> Written
+) -> Result<usize, Refusal>
     ensures { Writes (mark_in (both (slot domains.now numbers.now 0) (slot domains.now numbers.now 1)) walk place) out.old result out.new }
 {
     if 1 < walk {
-        return write_confirming(domains, numbers, out);
+        write_confirming(domains, numbers, out)
+    } else {
+        let d = alignment_stored::slot(domains, numbers, walk);
+        domain_names::write_name(d, place, out)
     }
-    let d = alignment_stored::slot(domains, numbers, walk);
-    domain_names::write_name(d, place, out)
 }

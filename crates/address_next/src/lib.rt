@@ -8,22 +8,22 @@ ghost use Rattle.address.specs.Checks.{next, result as the_result};
 ghost use Rattle.address_check.specs.Promises.{DoesCheck};
 ghost use Rattle.address_check.specs.code.View.{step_back, resulting_back};
 
-use address_check::{Check, CheckOutcome, CheckResulting, CheckStep, CheckStepped};
+use address_check::{Check, CheckOutcome, CheckStep, CheckStepped, MOST_REPLIES};
 use address_point::CheckAhead;
 use octets::Refusal;
 
-// There is room for so many replies.
-const MOST_REPLIES: usize = 16;
+// Refused where a call comes too early.
+const TOO_EARLY: Refusal = Refusal {
+    number: 7,
+    place: 0,
+};
 
 // How many names were answered: those of the walks, and the confirming name.
 fn count_names(count: usize, confirmed: u8) -> usize
     ensures { result ≡ min count 16 + (if is_set confirmed then 1 else 0) }
 {
-    let walked = text_parts::smaller(count, MOST_REPLIES);
-    if confirmed == 0 {
-        return walked;
-    }
-    walked + 1
+    let walked = count.min(MOST_REPLIES);
+    if confirmed == 0 { walked } else { walked + 1 }
 }
 
 // The next step.
@@ -33,14 +33,10 @@ pub fn next(c: Check) -> CheckStepped
     if c.started == 0 {
         return CheckStepped {
             check: c,
-            step: CheckStep::Refused(Refusal {
-                number: 7,
-                place: 0,
-            }),
+            step: CheckStep::Refused(TOO_EARLY),
         };
     }
-    let point = c.point;
-    match address_point::look(point) {
+    match address_point::look(c.point) {
         CheckAhead::Name { walk, place } => {
             let mut after = c;
             after.asked = 1;
@@ -60,24 +56,17 @@ pub fn next(c: Check) -> CheckStepped
 }
 
 // The result.
-pub fn result(c: Check) -> CheckResulting
+pub fn result(c: Check) -> Result<CheckOutcome, Refusal>
     ensures { DoesCheck c the_result c (given (resulting_back result) []) }
 {
     if c.started == 0 {
-        return CheckResulting::Refused(Refusal {
-            number: 7,
-            place: 0,
-        });
+        return Err(TOO_EARLY);
     }
-    let point = c.point;
-    match address_point::look(point) {
-        CheckAhead::Name { walk: _, place: _ } => CheckResulting::Refused(Refusal {
-            number: 7,
-            place: 0,
-        }),
+    match address_point::look(c.point) {
+        CheckAhead::Name { walk: _, place: _ } => Err(TOO_EARLY),
         CheckAhead::Outcome(agreement) => {
             let count = count_names(c.count, c.confirmed);
-            CheckResulting::Outcome(CheckOutcome { agreement, count })
+            Ok(CheckOutcome { agreement, count })
         }
     }
 }

@@ -2,25 +2,24 @@
 use mathlib.Core.Path.{◌≡◌, refl, sym, ◌∙◌}
 use mathlib.Core.List.{List, [], ◌∷◌, ◌++◌, flatten}
 use mathlib.Core.Bool.{Bool, true, false, ◌&&◌, false≢true}
-use mathlib.Core.Option.{none as nothing, some as just}
 use Prim.Native.Nat.{ℕ, ◌+◌}
 use native.Mathlib.Omega.{arith}
 use lib.ListN.{length, length-append}
-use Rattle.std.specs.Prelude.{if◌then◌else◌}
+use Rattle.std.specs.Prelude.{if◌then◌else◌, Option, Some, None}
 use Rattle.octets.specs.Octets.{Octets, is_empty, all, same}
 use Rattle.domain.specs.Domain.{Domain}
-use Rattle.policy.specs.declared.Reading.{Reading}
 use Rattle.policy.specs.Records.{read_policy, rua_text, rua_begin, rua_length}
 use Rattle.txt.specs.Answers.{records, texts_read, add_record, policy_records}
 use Rattle.address.specs.declared.Agreement.{Agreement}
 use Rattle.address.specs.Address.{rua_hosts, by_hosts, agreement, confirmation}
 use Rattle.address_place.specs.Place.{no_host, only_host}
 use Rattle.address_place.proofs.EntryLaws.{no_host_by, only_host_by, not_a_record}
+use Rattle.policy.specs.declared.Settings.{Settings}
 
 -- whether one was a record, with a text more
-unfoldable heard : Bool → Reading → Bool
-heard one (Reading.Record s) = true
-heard one Reading.NoRecord = one
+unfoldable heard : Bool → Option Settings → Bool
+heard one (Some s) = true
+heard one None = one
 
 both : (a b : Bool) → (a && b) ≡ true → (a ≡ true) × (b ≡ true)
 both true b e = (refl, e)
@@ -44,12 +43,12 @@ module _ (h : Domain) where
   unfolding agreement heard
   passed at one t ts n = go (read_policy t)
     where
-      go : (r : Reading) → elim r as (λ _. Agreement) [
-        | Reading.Record s ↦ by_hosts h at t (rua_hosts (rua_text t)) (agreement h (at + length t) true ts)
-        | Reading.NoRecord ↦ agreement h (at + length t) one ts
+      go : (r : Option Settings) → elim r as (λ _. Agreement) [
+        | Some s ↦ by_hosts h at t (rua_hosts (rua_text t)) (agreement h (at + length t) true ts)
+        | None ↦ agreement h (at + length t) one ts
       ] ≡ agreement h (at + length t) (heard one r) ts
-      go Reading.NoRecord = refl
-      go (Reading.Record s) = passed_by at t (agreement h (at + length t) true ts) (rua_hosts (rua_text t)) (sym (no_host_by t (rua_hosts (rua_text t)) refl) ∙ n)
+      go None = refl
+      go (Some s) = passed_by at t (agreement h (at + length t) true ts) (rua_hosts (rua_text t)) (sym (no_host_by t (rua_hosts (rua_text t)) refl) ∙ n)
 
   -- a text with one
   decided : (at : ℕ) (one : Bool) (t : Octets) (ts : List Octets) → no_host t ≡ false
@@ -57,12 +56,12 @@ module _ (h : Domain) where
   unfolding agreement
   decided at one t ts n = rw (only_host_by h t (rua_hosts (rua_text t)) refl) (go (read_policy t) refl)
     where
-      go : (r : Reading) → read_policy t ≡ r → elim r as (λ _. Agreement) [
-        | Reading.Record s ↦ by_hosts h at t (rua_hosts (rua_text t)) (agreement h (at + length t) true ts)
-        | Reading.NoRecord ↦ agreement h (at + length t) one ts
+      go : (r : Option Settings) → read_policy t ≡ r → elim r as (λ _. Agreement) [
+        | Some s ↦ by_hosts h at t (rua_hosts (rua_text t)) (agreement h (at + length t) true ts)
+        | None ↦ agreement h (at + length t) one ts
       ] ≡ (if all (same h) (rua_hosts (rua_text t)) then Agreement.Replaced (record { begin = at + rua_begin t; length = rua_length t }) else Agreement.PlainNo)
-      go Reading.NoRecord q = absurd (false≢true (sym n ∙ not_a_record t q))
-      go (Reading.Record s) q = decided_by at t (agreement h (at + length t) true ts) (rua_hosts (rua_text t)) (sym (no_host_by t (rua_hosts (rua_text t)) refl) ∙ n)
+      go None q = absurd (false≢true (sym n ∙ not_a_record t q))
+      go (Some s) q = decided_by at t (agreement h (at + length t) true ts) (rua_hosts (rua_text t)) (sym (no_host_by t (rua_hosts (rua_text t)) refl) ∙ n)
 
   -- texts that stand in the scratch from a place on
   first_of : (earlier later : List Octets) (t : Octets) (at : ℕ) (one : Bool) → all no_host earlier ≡ true → no_host t ≡ false
@@ -83,23 +82,23 @@ module _ (h : Domain) where
       let (f, g) = both (no_host t) (all no_host ts) e in
       passed at one t ts f ∙ go (read_policy t) (λ one. none_of ts (at + length t) one g)
     where
-      go : (r : Reading)
+      go : (r : Option Settings)
           → ((one : Bool) → agreement h (at + length t) one ts ≡ (if is_empty (policy_records ts) then (if one then Agreement.Confirmed else Agreement.PlainNo) else Agreement.Confirmed))
           → agreement h (at + length t) (heard one r) ts
           ≡ (if is_empty (add_record r (policy_records ts)) then (if one then Agreement.Confirmed else Agreement.PlainNo) else Agreement.Confirmed)
-      go Reading.NoRecord ih = ih one
-      go (Reading.Record s) ih = ih true ∙ either (is_empty (policy_records ts))
+      go None ih = ih one
+      go (Some s) ih = ih true ∙ either (is_empty (policy_records ts))
         where
           either : (b : Bool) → (if b then Agreement.Confirmed else Agreement.Confirmed) ≡ Agreement.Confirmed
           either true = refl
           either false = refl
 
 -- of an answer that could be read, what its texts say
-by_texts : (h : Domain) (bytes : Octets) (ts : List Octets) → texts_read bytes ≡ just ts → confirmation h (records bytes) ≡ agreement h 0 false ts
+by_texts : (h : Domain) (bytes : Octets) (ts : List Octets) → texts_read bytes ≡ Some ts → confirmation h (records bytes) ≡ agreement h 0 false ts
 unfolding confirmation
 by_texts h bytes ts e = rw (e, confirmation)
 
-pub decides : (h : Domain) (bytes : Octets) (earlier later : List Octets) (t : Octets) → texts_read bytes ≡ just (earlier ++ t ∷ later)
+pub decides : (h : Domain) (bytes : Octets) (earlier later : List Octets) (t : Octets) → texts_read bytes ≡ Some (earlier ++ t ∷ later)
     → all no_host earlier ≡ true → no_host t ≡ false
     → confirmation h (records bytes)
     ≡ (if only_host h t then Agreement.Replaced (record { begin = length (flatten earlier) + rua_begin t; length = rua_length t }) else Agreement.PlainNo)
@@ -107,6 +106,6 @@ decides h bytes earlier later t e f n =
     let z : 0 + length (flatten earlier) ≡ length (flatten earlier) = omega arith in
     by_texts h bytes (earlier ++ t ∷ later) e ∙ rw z at (first_of h earlier later t 0 false f n)
 
-pub confirms : (h : Domain) (bytes : Octets) (ts : List Octets) → texts_read bytes ≡ just ts → all no_host ts ≡ true
+pub confirms : (h : Domain) (bytes : Octets) (ts : List Octets) → texts_read bytes ≡ Some ts → all no_host ts ≡ true
     → confirmation h (records bytes) ≡ (if is_empty (policy_records ts) then Agreement.PlainNo else Agreement.Confirmed)
 confirms h bytes ts e f = by_texts h bytes ts e ∙ none_of h ts 0 false f

@@ -2,20 +2,18 @@
 use mathlib.Core.Path.{◌≡◌, refl, ap, ◌∙◌}
 use mathlib.Core.List.{List, [], ◌∷◌, ◌++◌, flatten, append_assoc}
 use mathlib.Core.Bool.{Bool, true, false}
-use mathlib.Core.Option.{Option, none as nothing, some as just}
 use Prim.Native.Nat.{ℕ, ◌+◌, ◌-◌, ◌≤◌}
 use native.Mathlib.Omega.{arith}
 use lib.Dec.{leb}
 use lib.ListN.{length, take, drop, length-append, length-drop}
 use lib.Seq.{drop_at, drop-drop, drop-append-le, take-append-le}
 use borrow.Author.Tests.{le-leb}
-use Rattle.std.specs.Prelude.{if◌then◌else◌}
+use Rattle.std.specs.Prelude.{if◌then◌else◌, Some, None, Option}
 use Rattle.octets.specs.Octets.{Octets, all, same, part_of}
 use Rattle.octets.specs.Lent.{over}
 use Rattle.octets.proofs.TextLaws.{true→T}
 use Rattle.domain.specs.Domain.{Domain}
 use Rattle.policy.specs.declared.Bounds.{Bounds}
-use Rattle.policy.specs.declared.Reading.{Reading}
 use Rattle.policy.specs.declared.Settings.{Settings}
 use Rattle.policy.specs.Records.{read_policy, rua_text, rua_begin, rua_length, rua_bounds}
 use Rattle.policy_read.proofs.RecordLaws.{rua_fits}
@@ -79,7 +77,7 @@ module _ (h : Domain) (b : Bounds) (m : Octets) where
       further n p = rw (append_assoc t (flatten ts) m, ← append_assoc front t (flatten ts ++ m)) (behind n ((front ++ t) ++ (flatten ts ++ m)) p)
 
       hosts : ((one : Bool) → agreement h (at + length t) one ts ≡ Agreement.Replaced b → Placed ts ((front ++ t) ++ (flatten ts ++ m)))
-          → (s : Settings) → read_policy t ≡ Reading.Record s → (hs : List Domain) → rua_hosts (rua_text t) ≡ hs
+          → (s : Settings) → read_policy t ≡ Some s → (hs : List Domain) → rua_hosts (rua_text t) ≡ hs
           → by_hosts h at t hs (agreement h (at + length t) true ts) ≡ Agreement.Replaced b → Placed (t ∷ ts) (front ++ ((t ++ flatten ts) ++ m))
       hosts ih s q [] r g = further (no_host_by t [] r) (ih true g)
       hosts ih s q (x ∷ xs) r g = here (all (same h) (x ∷ xs)) refl g
@@ -105,28 +103,28 @@ module _ (h : Domain) (b : Bounds) (m : Octets) where
           here false k i = absurd (true→T {b = false} (cc i))
 
       go : ((one : Bool) → agreement h (at + length t) one ts ≡ Agreement.Replaced b → Placed ts ((front ++ t) ++ (flatten ts ++ m)))
-          → (r : Reading) → read_policy t ≡ r
+          → (r : Option Settings) → read_policy t ≡ r
           → elim r as (λ _. Agreement) [
-            | Reading.Record s ↦ by_hosts h at t (rua_hosts (rua_text t)) (agreement h (at + length t) true ts)
-            | Reading.NoRecord ↦ agreement h (at + length t) one ts
+            | Some s ↦ by_hosts h at t (rua_hosts (rua_text t)) (agreement h (at + length t) true ts)
+            | None ↦ agreement h (at + length t) one ts
           ] ≡ Agreement.Replaced b
           → Placed (t ∷ ts) (front ++ ((t ++ flatten ts) ++ m))
-      go ih Reading.NoRecord q g = further (not_a_record t q) (ih one g)
-      go ih (Reading.Record s) q g = hosts ih s q (rua_hosts (rua_text t)) refl g
+      go ih None q g = further (not_a_record t q) (ih one g)
+      go ih (Some s) q g = hosts ih s q (rua_hosts (rua_text t)) refl g
 
 pub stands : (host : Domain) (bytes scratch : Octets) (b : Bounds) → confirmation host (records bytes) ≡ Agreement.Replaced b → 4096 ≤ length scratch
-    → (ts : List Octets) × (text : Octets) × (texts_read bytes ≡ just ts) × ReplacedBy host ts text
+    → (ts : List Octets) × (text : Octets) × (texts_read bytes ≡ Some ts) × ReplacedBy host ts text
     × (part_of (left_after (records bytes) scratch) b.begin (b.begin + b.length) ≡ rua_text text)
 unfolding confirmation left_after texts scratch_after over Placed
 stands h bytes scratch b e room = go (texts_read bytes) refl e
   where
-    go : (o : Option (List Octets)) → texts_read bytes ≡ o → elim o as (λ _. Agreement) [ nothing ↦ Agreement.NotKnown | just ts ↦ agreement h 0 false ts ] ≡ Agreement.Replaced b
-        → (ts : List Octets) × (t : Octets) × (o ≡ just ts) × ReplacedBy h ts t
+    go : (o : Option (List Octets)) → texts_read bytes ≡ o → elim o as (λ _. Agreement) [ None ↦ Agreement.NotKnown | Some ts ↦ agreement h 0 false ts ] ≡ Agreement.Replaced b
+        → (ts : List Octets) × (t : Octets) × (o ≡ Some ts) × ReplacedBy h ts t
         × (part_of (elim o as (λ _. Octets) [
-          | nothing ↦ scratch
-          | just ts ↦ if leb 4096 (length scratch) then flatten ts ++ drop (length (flatten ts)) scratch else scratch
+          | None ↦ scratch
+          | Some ts ↦ if leb 4096 (length scratch) then flatten ts ++ drop (length (flatten ts)) scratch else scratch
         ]) b.begin (b.begin + b.length) ≡ rua_text t)
-    go nothing q f = absurd (true→T {b = false} (cc f))
-    go (just ts) q f =
+    go None q f = absurd (true→T {b = false} (cc f))
+    go (Some ts) q f =
         let (t, c, p) = placed h b (drop (length (flatten ts)) scratch) ts [] 0 refl false f in
         (ts, t, refl, c, rw (le-leb 4096 (length scratch) room) p)

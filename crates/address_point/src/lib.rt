@@ -9,30 +9,10 @@ ghost use Rattle.address_check.specs.code.View.{point_kind_in, cursor_in};
 ghost use Rattle.address_point.specs.code.Ahead.{ahead_standing, ahead_walks};
 
 use address::Agreement;
-use address_check::{CheckPoint, PointKind};
+use address_check::{CheckPoint, MOST_REPLIES, PointKind};
 use domain::Octet;
 use policy::Bounds;
 use walk_progress::Stop;
-
-// The numbers of the kinds of a place.
-pub const POLICY: u8 = 0;
-
-pub const HOST: u8 = 1;
-
-const CONFIRMING: u8 = 2;
-
-const PLAIN_NO: u8 = 3;
-
-const INSIDE: u8 = 4;
-
-const CONFIRMED: u8 = 5;
-
-const REPLACED: u8 = 6;
-
-const NOT_KNOWN: u8 = 7;
-
-// The most replies that the two walks need.
-const MOST_REPLIES: usize = 16;
 
 // What comes next: a name to ask, given by its walk and place, or the outcome.
 #[derive(Clone, Copy)]
@@ -57,12 +37,28 @@ pub fn read_kind(n: u8) -> PointKind
     }
 }
 
+// The number of a kind.
+fn number_kind(kind: PointKind) -> u8
+    ensures { point_kind_in result ≡ kind }
+{
+    match kind {
+        PointKind::Policy => 0,
+        PointKind::Host => 1,
+        PointKind::Confirming => 2,
+        PointKind::PlainNo => 3,
+        PointKind::Inside => 4,
+        PointKind::Confirmed => 5,
+        PointKind::Replaced => 6,
+        PointKind::NotKnown => 7,
+    }
+}
+
 // A place on no walk.
-fn at(kind: u8, instead: Bounds) -> CheckPoint
-    ensures { (result.kind ≡ kind) × (result.instead ≡ instead) }
+fn at(kind: PointKind, instead: Bounds) -> CheckPoint
+    ensures { (point_kind_in result.kind ≡ kind) × (result.instead ≡ instead) }
 {
     CheckPoint {
-        kind,
+        kind: number_kind(kind),
         organization: Octet(0),
         stop: walk_stop::no_stop(),
         instead,
@@ -70,14 +66,13 @@ fn at(kind: u8, instead: Bounds) -> CheckPoint
 }
 
 // A place on a walk.
-pub fn on(kind: u8, organization: Octet, s: Stop) -> CheckPoint
-    ensures { (result.kind ≡ kind) × (result.organization ≡ organization) × (stop_in result.stop ≡ s) }
+pub fn on(kind: PointKind, organization: Octet, s: Stop) -> CheckPoint
+    ensures { (point_kind_in result.kind ≡ kind) × (result.organization ≡ organization) × (stop_in result.stop ≡ s) }
 {
-    let stop = walk_stop::keep_stop(s);
     CheckPoint {
-        kind,
+        kind: number_kind(kind),
         organization,
-        stop,
+        stop: walk_stop::keep_stop(s),
         instead: Bounds {
             begin: 0,
             length: 0,
@@ -90,7 +85,7 @@ pub fn confirming() -> CheckPoint
     ensures { (c : Pair) → cursor_in c result ≡ on_confirming }
 {
     at(
-        CONFIRMING,
+        PointKind::Confirming,
         Bounds {
             begin: 0,
             length: 0,
@@ -107,11 +102,11 @@ pub fn settle(a: Agreement) -> CheckPoint
         length: 0,
     };
     match a {
-        Agreement::NotKnown => at(NOT_KNOWN, nowhere),
-        Agreement::PlainNo => at(PLAIN_NO, nowhere),
-        Agreement::Inside => at(INSIDE, nowhere),
-        Agreement::Confirmed => at(CONFIRMED, nowhere),
-        Agreement::Replaced(bounds) => at(REPLACED, bounds),
+        Agreement::NotKnown => at(PointKind::NotKnown, nowhere),
+        Agreement::PlainNo => at(PointKind::PlainNo, nowhere),
+        Agreement::Inside => at(PointKind::Inside, nowhere),
+        Agreement::Confirmed => at(PointKind::Confirmed, nowhere),
+        Agreement::Replaced(bounds) => at(PointKind::Replaced, bounds),
     }
 }
 
@@ -120,8 +115,7 @@ pub fn look(p: CheckPoint) -> CheckAhead
     ensures { (c : Pair) → (ahead_standing c result ≡ stands c (cursor_in c p)) × (ahead_walks result ≡ is_walk (cursor_in c p)) }
 {
     let begin = p.stop.target.begin;
-    let kind = read_kind(p.kind);
-    match kind {
+    match read_kind(p.kind) {
         PointKind::Policy => CheckAhead::Name {
             walk: 0,
             place: begin,
@@ -137,10 +131,7 @@ pub fn look(p: CheckPoint) -> CheckAhead
         PointKind::PlainNo => CheckAhead::Outcome(Agreement::PlainNo),
         PointKind::Inside => CheckAhead::Outcome(Agreement::Inside),
         PointKind::Confirmed => CheckAhead::Outcome(Agreement::Confirmed),
-        PointKind::Replaced => {
-            let bounds = p.instead;
-            CheckAhead::Outcome(Agreement::Replaced(bounds))
-        }
+        PointKind::Replaced => CheckAhead::Outcome(Agreement::Replaced(p.instead)),
         PointKind::NotKnown => CheckAhead::Outcome(Agreement::NotKnown),
     }
 }
@@ -151,11 +142,6 @@ pub fn has_room(p: CheckPoint, count: usize) -> bool
 {
     match look(p) {
         CheckAhead::Outcome(_) => true,
-        CheckAhead::Name { walk, place: _ } => {
-            if 1 < walk {
-                return true;
-            }
-            count < MOST_REPLIES
-        }
+        CheckAhead::Name { walk, place: _ } => 1 < walk || count < MOST_REPLIES,
     }
 }

@@ -1,8 +1,8 @@
 -- Laws of the start of a check.
+use Rattle.std.specs.Prelude.{Option, None, Some}
 use mathlib.Core.Path.{◌≡◌, refl, ap, ap₂, sym, ◌∙◌}
 use mathlib.Core.List.{List, [], ◌∷◌}
 use mathlib.Core.Bool.{Bool, true, false, not}
-use mathlib.Core.Option.{Option, none as nothing, some as just}
 use Prim.Native.Nat.{ℕ, ◌+◌, ◌*◌, ◌≤◌}
 use native.Mathlib.Omega.{arith}
 use lib.ListN.{length, set, length-set}
@@ -17,7 +17,6 @@ use Rattle.alignment_stored.specs.code.Stored.{number_at, slot}
 use Rattle.alignment_stored.proofs.StoredLaws.{slot_of}
 use Rattle.address.specs.Address.{host_of}
 use Rattle.address.specs.Checks.{Pair, check_started}
-use Rattle.address_entry.specs.code.Hosts.{host_read}
 use Rattle.walk_known.specs.code.Kept.{kept_answers}
 use Rattle.address_check.specs.declared.CheckPoint.{CheckPoint}
 use Rattle.address_check.specs.code.Cursor.{begin_on}
@@ -33,22 +32,14 @@ module _ (policy entry : Octets) {d : Octets} (q : d ≡ without_dot policy) whe
   unfolding check_started ◌>>=◌ refuse_if
   bad_policy e = rw (← q, e)
 
-  module _ (e : is_domain d ≡ true) (h : Octets) (f : host_read h ≡ host_of entry) where
-    pub bad_entry : length h ≡ 0 → check_started policy entry ≡ not_ok (refusal 23 0)
-    unfolding check_started ◌>>=◌ refuse_if or_refuse host_read
-    bad_entry z = rw (← q, e, ← f) (go h z)
-      where
-        go : (h : Octets) → length h ≡ 0 → ◌≡◌ {A = OrRefused Pair} (or_refuse (host_read h) (refusal 23 0) >>= λ x. ok (both (lower d) x)) (not_ok (refusal 23 0))
-        go [] z = refl
-        go (x ∷ h) z = absurd (omega arith)
+  module _ (e : is_domain d ≡ true) where
+    pub bad_entry : host_of entry ≡ None → check_started policy entry ≡ not_ok (refusal 23 0)
+    unfolding check_started ◌>>=◌ refuse_if or_refuse
+    bad_entry f = rw (← q, e, f)
 
-    pub good_start : (length h ≡ 0 → ⊥) → check_started policy entry ≡ ok (both (lower d) (lower h))
-    unfolding check_started ◌>>=◌ refuse_if or_refuse host_read
-    good_start z = rw (← q, e, ← f) (go h z)
-      where
-        go : (h : Octets) → (length h ≡ 0 → ⊥) → (or_refuse (host_read h) (refusal 23 0) >>= λ x. ok (both (lower d) x)) ≡ ok (both (lower d) (lower h))
-        go [] z = absurd (z refl)
-        go (x ∷ h) z = refl
+    pub good_start : (h : Octets) → host_of entry ≡ Some (lower h) → check_started policy entry ≡ ok (both (lower d) (lower h))
+    unfolding check_started ◌>>=◌ refuse_if or_refuse
+    good_start h f = rw (← q, e, f)
 
 -- ------------------------------------------------------------------ two domains in their slots
 
@@ -79,5 +70,5 @@ module _ {before once twice : Octets} {a b : ℕ} (numbers : List ℕ) (p h : Oc
   unfolding is_set view view_by keeps_started pair_now replies_now cursor_now asked_now kept_answers
   started_view kept point first second x y z =
       let here : cursor_in (both (slot twice sizes 0) (slot twice sizes 1)) point ≡ begin_on [] (both (slot twice sizes 0) (slot twice sizes 1)) = rw (x, y) at z in
-      ap (λ at. record { pair = just (both (slot twice sizes 0) (slot twice sizes 1)); replies = []; confirmed = false; asked = nothing; at = at }) here
+      ap (λ at. record { pair = Some (both (slot twice sizes 0) (slot twice sizes 1)); replies = []; confirmed = false; asked = None; at = at }) here
       ∙ ap₂ (λ (a b : Octets). keeps_started (both a b)) first_slot second_slot

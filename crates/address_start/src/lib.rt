@@ -6,22 +6,21 @@ ghost use Rattle.octets.specs.Octets.{lower};
 ghost use Rattle.octets.specs.Refusing.{refusal};
 ghost use Rattle.asking.specs.Asking.{given};
 ghost use Rattle.address.specs.Checks.{start};
-ghost use Rattle.address_check.specs.declared.CheckAcceptance.{CheckAcceptance};
 ghost use Rattle.address_check.specs.code.Machine.{keeps_started};
 ghost use Rattle.address_check.specs.Promises.{DoesCheck};
 ghost use Rattle.address_check.specs.code.View.{view, acceptance_back};
 ghost use Rattle.address_check.specs.code.Pairs.{both};
 
-use address_check::{Check, CheckAcceptance, CheckChanged};
+use address_check::{Check, CheckChanged};
 use octets::Refusal;
 
 // A check that was refused something, as it was.
 pub fn refused(c: Check, number: u8, place: usize) -> CheckChanged
-    ensures { result ≡ record { check = c; acceptance = CheckAcceptance.Refused (refusal number place) } }
+    ensures { result ≡ record { check = c; acceptance = Err (refusal number place) } }
 {
     CheckChanged {
         check: c,
-        acceptance: CheckAcceptance::Refused(Refusal { number, place }),
+        acceptance: Err(Refusal { number, place }),
     }
 }
 
@@ -58,12 +57,11 @@ pub fn start(c: Check, policy: &[u8], entry: &[u8]) -> CheckChanged
     if !domain_rule::is_domain(d) {
         return refused(c, 11, 0);
     }
-    let h = address_entry::host(entry);
-    if h.len() == 0 {
+    let Some(h) = address_entry::host(entry) else {
         return refused(c, 23, 0);
-    }
+    };
     CheckChanged {
         check: hold(c, d, h),
-        acceptance: CheckAcceptance::Accepted,
+        acceptance: Ok(()),
     }
 }

@@ -12,18 +12,10 @@ use address::Agreement;
 use address_hosts::Said;
 use octets::Refusal;
 use policy::Bounds;
-use txt::{Status, Taken};
-use txt_read::Front;
+use txt::Status;
 
 // The most records that one answer has.
 const ANSWER_RECORDS: usize = 16;
-
-// What taking an answer at the confirming name gives.
-#[derive(Clone, Copy)]
-pub enum Confirming {
-    Says(Agreement),
-    Refused(Refusal),
-}
 
 // How many octets the text of character-strings has.
 fn text_length(strings: &[u8]) -> usize
@@ -31,13 +23,13 @@ fn text_length(strings: &[u8]) -> usize
 {
     let mut rest = strings;
     let mut n = 0;
-    while 0 < rest.len() {
-        let k = txt_read::wide(rest[0]);
-        if rest.len() - 1 < k {
+    while let [size, ..] = rest {
+        let k = usize::from(*size);
+        let next = k + 1;
+        if rest.len() < next {
             return n;
         }
-        n = n + k;
-        let next = k + 1;
+        n += k;
         rest = &rest[next..];
     }
     n
@@ -48,9 +40,10 @@ fn confirm(one: bool) -> Agreement
     ensures { result ≡ (if one then Agreement.Confirmed else Agreement.PlainNo) }
 {
     if one {
-        return Agreement::Confirmed;
+        Agreement::Confirmed
+    } else {
+        Agreement::PlainNo
     }
-    Agreement::PlainNo
 }
 
 // What the texts of a readable answer say that stand at the front of the scratch.
@@ -62,7 +55,7 @@ fn judge_texts<'a>(bytes: &'a [u8], scratch: &'a [u8], host: &'a [u8]) -> Agreem
     let mut one = false;
     let mut budget = ANSWER_RECORDS;
     while 0 < budget {
-        let Front::Record(n) = txt_read::read_front(rest) else {
+        let Some(n) = txt_read::read_front(rest) else {
             return confirm(one);
         };
         let end = n + 4;
@@ -95,15 +88,15 @@ pub fn take_confirming<'a>(
     bytes: &'a [u8],
     host: &'a [u8],
     scratch: &mut [u8],
-) -> Confirming
+) -> Result<Agreement, Refusal>
     ensures { TakesConfirming (answer_of status bytes.now) (lower host.now) scratch.old result scratch.new }
 {
     match txt_take::take_answer(status, bytes, scratch) {
-        Taken::Refused(f) => Confirming::Refused(f),
-        Taken::Reply(_) => match status {
-            Status::Records => Confirming::Says(judge_texts(bytes, &scratch[0..], host)),
-            Status::NoRecords => Confirming::Says(Agreement::PlainNo),
-            Status::Error => Confirming::Says(Agreement::NotKnown),
-        },
+        Err(f) => Err(f),
+        Ok(_) => Ok(match status {
+            Status::Records => judge_texts(bytes, scratch, host),
+            Status::NoRecords => Agreement::PlainNo,
+            Status::Error => Agreement::NotKnown,
+        }),
     }
 }

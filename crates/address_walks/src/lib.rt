@@ -20,13 +20,11 @@ use walk_progress::Reach;
 fn confirm(policy: &[u8], host: &[u8]) -> CheckPoint
     ensures { (β : Answers Reply) → cursor_in (both policy.now host.now) result ≡ confirm_on β (both policy.now host.now) }
 {
-    if 237 < policy.len() {
-        return address_point::settle(Agreement::PlainNo);
+    if policy.len() <= 237 && host.len() <= 237 - policy.len() {
+        address_point::confirming()
+    } else {
+        address_point::settle(Agreement::PlainNo)
     }
-    if 237 - policy.len() < host.len() {
-        return address_point::settle(Agreement::PlainNo);
-    }
-    address_point::confirming()
 }
 
 // The host's walk has come so far; where the policy domain's organizational domain begins in it.
@@ -34,16 +32,16 @@ fn after_host<'a>(policy: &'a [u8], host: &'a [u8], organization: Octet, w: Reac
     ensures { (β : Answers Reply) → cursor_in (both policy.now host.now) result ≡ host_reached β (both policy.now host.now) (drop organization.0 policy.now) (reached_in host.now w) }
 {
     match w {
-        Reach::Stops(stop) => address_point::on(address_point::HOST, organization, stop),
+        Reach::Stops(stop) => address_point::on(PointKind::Host, organization, stop),
         Reach::Failed => address_point::settle(Agreement::NotKnown),
         Reach::Done(o) => {
-            let begin = o.begin;
-            let own = text_parts::part(host, begin.0, host.len());
-            let other = text_parts::part(policy, organization.0, policy.len());
+            let own = text_parts::skip(host, o.begin.0);
+            let other = text_parts::skip(policy, organization.0);
             if text_parts::same_octets(own, other) {
-                return address_point::settle(Agreement::Inside);
+                address_point::settle(Agreement::Inside)
+            } else {
+                confirm(policy, host)
             }
-            confirm(policy, host)
         }
     }
 }
@@ -60,12 +58,11 @@ fn after_policy<'a>(
     ensures { cursor_in (both policy.now host.now) result ≡ policy_reached (kept_answers domains.now count kept.now) (both policy.now host.now) (reached_in policy.now w) }
 {
     match w {
-        Reach::Stops(stop) => address_point::on(address_point::POLICY, Octet(0), stop),
+        Reach::Stops(stop) => address_point::on(PointKind::Policy, Octet(0), stop),
         Reach::Failed => address_point::settle(Agreement::NotKnown),
         Reach::Done(o) => {
-            let begin = o.begin;
             let reached = walk_reach::reach(domains, kept, count, host);
-            after_host(policy, host, begin, reached)
+            after_host(policy, host, o.begin, reached)
         }
     }
 }
@@ -99,18 +96,15 @@ pub fn advance<'a>(
 ) -> CheckPoint
     ensures { cursor_in (both policy.now host.now) result ≡ answered_on (kept_answers domains.now count kept.now) (both policy.now host.now) (cursor_in (both policy.now host.now) p) r }
 {
-    let kept_stop = p.stop;
-    let stop = walk_stop::read_stop(kept_stop);
-    let organization = p.organization;
-    let kind = address_point::read_kind(p.kind);
-    match kind {
+    let stop = walk_stop::read_stop(p.stop);
+    match address_point::read_kind(p.kind) {
         PointKind::Policy => {
             let reached = walk_reach::reach_after(domains, kept, count, policy, stop, r);
             after_policy(domains, kept, count, policy, host, reached)
         }
         PointKind::Host => {
             let reached = walk_reach::reach_after(domains, kept, count, host, stop, r);
-            after_host(policy, host, organization, reached)
+            after_host(policy, host, p.organization, reached)
         }
         PointKind::Confirming => p,
         PointKind::PlainNo => p,

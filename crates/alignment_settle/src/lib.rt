@@ -5,7 +5,6 @@ ghost use Rattle.std.specs.Prelude.{◌≡◌, min};
 ghost use Rattle.octets.specs.Octets.{any};
 ghost use Rattle.alignment.specs.Alignments.{mode_of, settled, settled_alignment, must_walk};
 ghost use Rattle.alignment_stored.specs.code.Stored.{identifier_at, stored_identifiers};
-ghost use Rattle.alignment_settle.specs.code.Tallies.{settled_of};
 
 use alignment::{Alignment, Kind, Outcome};
 use policy::{Mode, Settings};
@@ -19,45 +18,33 @@ pub struct Tally {
     pub temporary: bool,
 }
 
-// What is settled of an identifier without a walk.
-#[derive(Clone, Copy)]
-pub enum Settled {
-    Known(Alignment),
-    Open,
-}
-
 // The mode in which an identifier of a kind is compared.
 fn mode_of(s: Settings, k: Kind) -> Mode
     ensures { result ≡ mode_of s k }
 {
-    let adkim = s.adkim;
-    let aspf = s.aspf;
     match k {
-        Kind::Spf => aspf,
-        Kind::Dkim => adkim,
+        Kind::Spf => s.aspf,
+        Kind::Dkim => s.adkim,
     }
 }
 
 // What needs no walk, of an identifier that passed.
-fn settle_passing(equal: bool, m: Mode) -> Settled
-    ensures { settled_of result ≡ settled Outcome.Pass equal m }
+fn settle_passing(equal: bool, m: Mode) -> Option<Alignment>
+    ensures { result ≡ settled Outcome.Pass equal m }
 {
-    if equal {
-        return Settled::Known(Alignment::Aligned);
-    }
     match m {
-        Mode::Strict => Settled::Known(Alignment::NotAligned),
-        Mode::Relaxed => Settled::Open,
+        _ if equal => Some(Alignment::Aligned),
+        Mode::Strict => Some(Alignment::NotAligned),
+        Mode::Relaxed => None,
     }
 }
 
 // What needs no walk.
-fn settle(o: Outcome, equal: bool, m: Mode) -> Settled
-    ensures { settled_of result ≡ settled o equal m }
+fn settle(o: Outcome, equal: bool, m: Mode) -> Option<Alignment>
+    ensures { result ≡ settled o equal m }
 {
     match o {
-        Outcome::NotPassing => Settled::Known(Alignment::NotAligned),
-        Outcome::TemporaryError => Settled::Known(Alignment::NotAligned),
+        Outcome::NotPassing | Outcome::TemporaryError => Some(Alignment::NotAligned),
         Outcome::Pass => settle_passing(equal, m),
     }
 }
@@ -69,8 +56,8 @@ pub fn settle_at<'a>(
     author: &'a [u8],
     s: Settings,
     walk: usize,
-) -> Settled
-    ensures { settled_of result ≡ settled_alignment s author.now (identifier_at domains.now numbers.now walk) }
+) -> Option<Alignment>
+    ensures { result ≡ settled_alignment s author.now (identifier_at domains.now numbers.now walk) }
 {
     let equal = text_parts::same_octets(alignment_stored::slot(domains, numbers, walk), author);
     settle(
@@ -90,10 +77,7 @@ fn must_walk<'a>(
 ) -> bool
     ensures { result ≡ must_walk s author.now (identifier_at domains.now numbers.now walk) }
 {
-    match settle_at(domains, numbers, author, s, walk) {
-        Settled::Known(_) => false,
-        Settled::Open => true,
-    }
+    settle_at(domains, numbers, author, s, walk).is_none()
 }
 
 // Whether any of so many identifiers must be walked.
@@ -106,14 +90,10 @@ pub fn any_must_walk<'a>(
 ) -> bool
     ensures { result ≡ any (must_walk s author.now) (stored_identifiers domains.now numbers.now 1 (min count 16)) }
 {
-    let mut more = text_parts::smaller(count, 16);
-    let mut walk = 1;
-    while 0 < more {
+    for walk in 1..count.min(16) + 1 {
         if must_walk(domains, numbers, author, s, walk) {
             return true;
         }
-        walk = walk + 1;
-        more = more - 1;
     }
     false
 }

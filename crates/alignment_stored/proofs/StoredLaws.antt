@@ -1,6 +1,6 @@
 -- Laws of stored identifiers.
 use mathlib.Core.Path.{◌≡◌, refl, ap}
-use mathlib.Core.List.{List, ◌∷◌}
+use mathlib.Core.List.{List, [], ◌∷◌}
 use Prim.Native.Nat.{ℕ, zero, suc, ◌+◌, ◌*◌, ◌-◌, ◌≤◌, ◌<◌, min}
 use native.Mathlib.Omega.{arith}
 use lib.ListN.{length, take, drop, get_or, length-take, get_or-eq_default}
@@ -40,8 +40,8 @@ module _ (numbers : List ℕ) (from walk : ℕ) where
   number_there h = rw (le-leb walk 16 h)
 
 module _ (domains : Octets) (numbers : List ℕ) (walk : ℕ) where
-  pub slot_past : 16 < walk → part_of domains 0 0 ≡ slot domains numbers walk
-  unfolding part_of slot
+  pub slot_past : 16 < walk → [] ≡ slot domains numbers walk
+  unfolding slot
   slot_past h = rw (number_past numbers 0 walk h)
 
   pub slot_part : (size : ℕ) → size ≡ min (number_at numbers 0 walk) 253 → part_of domains (253 * walk) (253 * walk + size) ≡ slot domains numbers walk

@@ -11,24 +11,23 @@ fn number_at(numbers: &[u16], from: usize, walk: usize) -> usize
     requires { from ≤ 34 }
     ensures { result ≡ number_at numbers.now from walk }
 {
-    if 16 < walk {
-        return 0;
+    if walk <= 16 && from + walk < numbers.len() {
+        usize::from(numbers[from + walk])
+    } else {
+        0
     }
-    if numbers.len() <= from + walk {
-        return 0;
-    }
-    numbers[from + walk] as usize
 }
 
 // The domain that a walk starts from.
 pub fn slot<'a>(domains: &'a [u8], numbers: &'a [u16], walk: usize) -> &'a [u8]
     ensures { result.now ≡ slot domains.now numbers.now walk }
 {
-    if 16 < walk {
-        return text_parts::part(domains, 0, 0);
+    if walk <= 16 {
+        let size = number_at(numbers, 0, walk).min(253);
+        text_parts::part(domains, 253 * walk, 253 * walk + size)
+    } else {
+        &[]
     }
-    let size = text_parts::smaller(number_at(numbers, 0, walk), 253);
-    text_parts::part(domains, 253 * walk, 253 * walk + size)
 }
 
 // The kind of a walk's identifier.

@@ -2,10 +2,9 @@
 use mathlib.Core.Path.{◌≡◌, refl, ap, sym, ◌∙◌}
 use mathlib.Core.List.{[], ◌∷◌, ◌++◌, map-append}
 use mathlib.Core.Bool.{true, false}
-use mathlib.Core.Option.{some as just, map}
 use Prim.Native.Nat.{suc}
 use lib.ListN.{length}
-use Rattle.std.specs.Prelude.{if◌then◌else◌}
+use Rattle.std.specs.Prelude.{if◌then◌else◌, Some, option_map}
 use Rattle.octets.specs.Octets.{same}
 use Rattle.lookup.specs.Lookup.{Name, Lookups, reading, Answers, names, find, run_over}
 use Rattle.lookup.proofs.RunLaws.{run_same}
@@ -15,11 +14,11 @@ use Rattle.txt.specs.Answers.{Answer, reply}
 use Rattle.asking.specs.Asking.{replies}
 
 -- the reply for a name is the answer for it, read
-find_replies : (β : Answers Answer) (n : Name) → find (replies β) n ≡ map reply (find β n)
+find_replies : (β : Answers Answer) (n : Name) → find (replies β) n ≡ option_map reply (find β n)
 unfolding replies find
 find_replies [] n = refl
 find_replies (p ∷ β) n =
-    elim (same n p.0) as (λ t. (if t then just (reply p.1) else find (replies β) n) ≡ map reply (if t then just p.1 else find β n)) [
+    elim (same n p.0) as (λ t. (if t then Some (reply p.1) else find (replies β) n) ≡ option_map reply (if t then Some p.1 else find β n)) [
       | true ↦ refl
       | false ↦ find_replies β n
     ]

@@ -1,6 +1,5 @@
 -- A run by calls: a lookup program, asked and answered name by name (document 01, "Demand 3's book ..").
-use Rattle.std.specs.Prelude.{List, [], ◌∷◌, ◌++◌, map, ℕ, leb, length, if◌then◌else◌}
-use Rattle.std.proofs.Math.Option.{Option, none as nothing, some as just}
+use Rattle.std.specs.Prelude.{List, [], ◌∷◌, ◌++◌, map, ℕ, leb, length, if◌then◌else◌, Option, None, Some}
 use Rattle.octets.specs.Octets.{Octets, same_text}
 use Rattle.octets.specs.Refusing.{refusal}
 use Rattle.octets.specs.declared.Refusal.{Refusal}
@@ -36,14 +35,14 @@ pub record Asking (R : Type 0) : Type 0 where
 
 -- "the last two start empty"
 unfoldable pub begun : {R : Type 0} → Asking R
-begun = record { taken = []; asked = nothing }
+begun = record { taken = []; asked = None }
 
 unfoldable pub with_asked : {R : Type 0} → Asking R → Name → Asking R
-with_asked s n = record { taken = s.taken; asked = just n }
+with_asked s n = record { taken = s.taken; asked = Some n }
 
 -- "kept, .. no name asked"
 unfoldable pub kept : {R : Type 0} → Asking R → Name → R → Asking R
-kept s n r = record { taken = s.taken ++ ((n, r) ∷ []); asked = nothing }
+kept s n r = record { taken = s.taken ++ ((n, r) ∷ []); asked = None }
 
 -- "separate walks run over its answers to the first name without one"
 unfoldable pub standing : {R A : Type 0} → Lookups R A → Asking R → Standing A
@@ -51,8 +50,8 @@ standing t s = run_over s.taken t
 
 -- the names asked: those answered, and the one now asked; "given again before its answer, it still counts as asked once"
 unfoldable pub now_asked : Option Name → List Name
-now_asked nothing = []
-now_asked (just n) = n ∷ []
+now_asked None = []
+now_asked (Some n) = n ∷ []
 
 unfoldable pub asked_names : {R : Type 0} → Asking R → List Name
 asked_names s = names s.taken ++ now_asked s.asked
@@ -75,16 +74,16 @@ next_step t s = next_by s (standing t s)
 
 -- "Answer: 5, 6, 10; else kept, scratch as above"
 unfoldable pub take_texts : {R A : Type 0} → Asking R → Name → R → (scratch : Octets) → Option (List Octets) → Asking R × Given A
-take_texts s n r scratch nothing = (s, given (refused (refusal 6 0)) scratch)
-take_texts s n r scratch (just ts) =
+take_texts s n r scratch None = (s, given (refused (refusal 6 0)) scratch)
+take_texts s n r scratch (Some ts) =
     if leb 4096 (length scratch)
     then (kept s n r, given accepted (scratch_after ts scratch))
     else (s, given (refused (refusal 10 4096)) scratch)
 
 -- "answer for a name not now asked, or none is asked"; the name "in either case", and with a final dot or without
 unfoldable pub take_asked : {R A : Type 0} → Asking R → (name : Octets) → Answer → R → (scratch : Octets) → Option Name → Asking R × Given A
-take_asked s name a r scratch nothing = (s, given (refused (refusal 5 0)) scratch)
-take_asked s name a r scratch (just n) =
+take_asked s name a r scratch None = (s, given (refused (refusal 5 0)) scratch)
+take_asked s name a r scratch (Some n) =
     if same_text (without_dot name) n then take_texts s n r scratch (texts a) else (s, given (refused (refusal 5 0)) scratch)
 
 -- an answer, and what is kept of it

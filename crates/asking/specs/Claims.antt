@@ -1,6 +1,5 @@
 -- What is claimed of a run, wherever its calls have left it (the mission, demand 3).
-use Rattle.std.specs.Prelude.{◌≡◌, List, [], ◌∷◌, ◌++◌, true, ◌≤◌, ◌<◌, length}
-use Rattle.std.proofs.Math.Option.{some as just}
+use Rattle.std.specs.Prelude.{◌≡◌, List, [], ◌∷◌, ◌++◌, true, ◌≤◌, ◌<◌, length, Some}
 use Rattle.octets.specs.Octets.{Octets, same_text}
 use Rattle.octets.specs.Refusing.{refusal}
 use Rattle.octets.specs.declared.Refusal.{Refusal}
@@ -54,8 +53,8 @@ pub record AskingClaims {R A : Type 0} (t : Lookups R A) (s : Asking R) : Type 0
   -- and not before it, since at the verdict every name of the list is answered
   pub answered : (a : A) → standing t s ≡ has a → (α : Name → R) → Completes α s.taken → names s.taken ≡ list α t
   -- an answer that can be read, for the name now asked, in either case and with a final dot or without, with scratch enough, is kept
-  pub accepts : (n : Name) → s.asked ≡ just n → (name : Octets) → same_text (without_dot name) n ≡ true
-      → (a : Answer) (ts : List Octets) → texts a ≡ just ts → (r : R) (scratch : Octets) → 4096 ≤ length scratch
+  pub accepts : (n : Name) → s.asked ≡ Some n → (name : Octets) → same_text (without_dot name) n ≡ true
+      → (a : Answer) (ts : List Octets) → texts a ≡ Some ts → (r : R) (scratch : Octets) → 4096 ≤ length scratch
       → take {A = A} s name a r scratch ≡ (kept s n r, given accepted (scratch_after ts scratch))
   -- "A refusal leaves the evaluation and lent memory unchanged"
   pub refused_stands : (name : Octets) (a : Answer) (r : R) (scratch : Octets) (f : Refusal) → (take {A = A} s name a r scratch).1.back ≡ refused f

@@ -2,15 +2,13 @@
 use mathlib.Core.Path.{◌≡◌, refl, ap, sym, ◌∙◌, subst}
 use mathlib.Core.List.{List, [], ◌∷◌, ◌++◌, append-nil, append_assoc, map}
 use mathlib.Core.Bool.{Bool, true, false, ◌||◌, true≢false, false≢true, or-false, or-true, or_assoc}
-use mathlib.Core.Option.{none-ne-some}
 use Prim.Native.Nat.{◌+◌, ◌*◌, ◌≤◌}
 use native.Mathlib.Omega.{arith}
 use lib.ListN.{length, length-append}
-use Rattle.std.specs.Prelude.{if◌then◌else◌}
+use Rattle.std.specs.Prelude.{if◌then◌else◌, Result, Ok, Err, ℕ}
 use Rattle.octets.specs.Octets.{Octets, any}
 use Rattle.octets.specs.Refusing.{OrRefused, ok, not_ok, ◌>>=◌, refuse_if, refusal}
 use Rattle.octets.specs.declared.Refusal.{Refusal}
-use Rattle.octets.specs.declared.Written.{Written}
 use Rattle.octets.specs.Lent.{over, fits, written, left, written_if, left_if}
 use Rattle.octets.proofs.RefusingLaws.{bind_ok, refuse_if_ok}
 use Rattle.lookup.specs.Lookup.{Name, names, once, list, Standing, needs, has, Completes}
@@ -30,6 +28,7 @@ use Rattle.book.specs.Book.{Call, add, next, result, answer, field, Book, opened
 use Rattle.book.specs.BookClaims.{book_after, book_gave, given_names, any_handed_out, accepted_adding, accepted_addings, lent, BookClaimed, SameState, NextCloses, NothingYet}
 use Rattle.book.proofs.StartLaws.{as_single, Sound, sound_opened, sound_added}
 use Rattle.book.proofs.FirstName.{first_name}
+use Rattle.std.proofs.lemmas.Option.{none-some}
 
 -- ------------------------------------------------------------------ one call
 
@@ -93,7 +92,7 @@ module _ (b : Book) (κ : Kept b) where
   kept_answer name status bytes scratch = record {
     reached = by_answer κ.reached name (answer_of status bytes) (answer_of status bytes) scratch;
     fresh = λ h. take_cases (λ x. x.0 ≡ begun) b.run name (answer_of status bytes) (answer_of status bytes) scratch (λ f. κ.fresh h)
-        λ n ts e. absurd (none-ne-some n (sym (ap (λ (s : Asking Answer). s.asked) (κ.fresh h)) ∙ e));
+        λ n ts e. absurd (none-some n (sym (ap (λ (s : Asking Answer). s.asked) (κ.fresh h)) ∙ e));
     sound = κ.sound;
   }
 
@@ -134,10 +133,10 @@ quiet : (b : Book) (l : List Name) → l ≡ [] → asked_names b.run ≡ asked_
 unfolding once
 quiet b l e = sym (append-nil _) ∙ ap (λ l. asked_names b.run ++ once (asked_names b.run) l) (sym e)
 
-quiet_back : (w : Written) → given_name (back_of w) ≡ []
+quiet_back : (w : Result ℕ Refusal) → given_name (back_of w) ≡ []
 unfolding back_of given_name
-quiet_back (Written.Wrote n) = refl
-quiet_back (Written.Refused f) = refl
+quiet_back (Ok n) = refl
+quiet_back (Err f) = refl
 
 quiet_field : (m : Message) (u : Standing Verdict) (output : Octets) → given_name (field_by m u output).back ≡ []
 unfolding field_by given_name
@@ -172,10 +171,10 @@ names_after m o cs = names_calls (opened m) (kept_opened m o) [] refl cs
 unfoldable Hands : Book → Book × Given Verdict → Type 0
 Hands b x = x.0.handed_out ≡ (b.handed_out || hands_out x.1.back)
 
-hands_back : (w : Written) → hands_out (back_of w) ≡ false
+hands_back : (w : Result ℕ Refusal) → hands_out (back_of w) ≡ false
 unfolding back_of hands_out
-hands_back (Written.Wrote n) = refl
-hands_back (Written.Refused f) = refl
+hands_back (Ok n) = refl
+hands_back (Err f) = refl
 
 hands_field : (m : Message) (u : Standing Verdict) (output : Octets) → hands_out (field_by m u output).back ≡ false
 unfolding field_by hands_out
@@ -294,8 +293,8 @@ stands_field b (has v) output f h = ap (λ g. (b, g)) (go (field_of b.message v)
     go (not_ok r) h = ap (λ k. given k output) h
     go (ok t) h = fit (fits t output) h
       where
-        fit : (r : Bool) → back_of (if r then Written.Wrote (length t) else Written.Refused (refusal 10 (length t))) ≡ refused f
-            → given (back_of (if r then Written.Wrote (length t) else Written.Refused (refusal 10 (length t)))) (if r then over t output else output) ≡ given (refused f) output
+        fit : (r : Bool) → back_of (if r then Ok (length t) else Err (refusal 10 (length t))) ≡ refused f
+            → given (back_of (if r then Ok (length t) else Err (refusal 10 (length t)))) (if r then over t output else output) ≡ given (refused f) output
         fit true h = absurd (given_more (wrote (length t)) f refl h)
         fit false h = ap (λ k. given k output) h
 

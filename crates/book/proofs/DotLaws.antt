@@ -1,8 +1,8 @@
 -- The claims on a final dot hold.
+use Rattle.std.specs.Prelude.{Some}
 use mathlib.Core.Path.{◌≡◌}
 use mathlib.Core.List.{List}
 use mathlib.Core.Bool.{true}
-use mathlib.Core.Option.{some as just}
 use Rattle.octets.specs.Octets.{all}
 use Rattle.lookup.specs.Lookup.{Name, names, member, list}
 use Rattle.lookup.proofs.NameLaws.{member_append, member_last}
@@ -42,7 +42,7 @@ asked_undotted m cs o n e =
     let h : member n (list α (separate_walks b.message)) ≡ true = rw f (member_append n (asked_names b.run) rest e) in
     listed_undotted b.message (sound_domains b.message (kept_after m o cs).sound) (λ n. reply (α n)) n (rw (list_reading reply α (evaluate b.message)) at h)
 
-now_member : (s : Asking Answer) (n : Name) → s.asked ≡ just n → member n (asked_names s) ≡ true
+now_member : (s : Asking Answer) (n : Name) → s.asked ≡ Some n → member n (asked_names s) ≡ true
 unfolding asked_names now_asked
 now_member s n e = rw e (member_last n (names s.taken))
 

@@ -2,11 +2,10 @@
 use mathlib.Core.Path.{◌≡◌, refl, ap, ◌∙◌}
 use mathlib.Core.List.{List, [], ◌∷◌}
 use mathlib.Core.Bool.{Bool, true, false, ◌||◌, false≢true, or-true}
-use mathlib.Core.Option.{Option, none as nothing}
 use Prim.Native.Nat.{ℕ, zero, suc, ◌-◌, ◌<◌}
 use native.Mathlib.Omega.{arith}
 use lib.ListN.{length, get_or}
-use Rattle.std.specs.Prelude.{if◌then◌else◌}
+use Rattle.std.specs.Prelude.{if◌then◌else◌, Option, None}
 use Rattle.octets.specs.Octets.{any}
 use Rattle.lookup.specs.Lookup.{Name, Lookups, done, ◌>>=◌, look_up, find, needs, run, run_over}
 use Rattle.lookup.proofs.RunLaws.{run_bind, onward}
@@ -33,7 +32,7 @@ some_target d e = any_at can_ask [] (targets d) (length (targets d) - 1) (omega 
 
 -- with no answers a program needs its first name
 unfoldable no_answer : Name → Option Reply
-no_answer n = nothing
+no_answer n = None
 
 NeedsOne : {A : Type 0} → Lookups Reply A → Type 0
 NeedsOne t = (n : Name) × (run no_answer t ≡ needs n)

@@ -1,7 +1,7 @@
 -- Real answers for errors change no verdict of calls but temperror.
+use Rattle.std.specs.Prelude.{Option, None, Some}
 use mathlib.Core.Path.{◌≡◌, refl, ap, sym, ◌∙◌}
 use mathlib.Core.Bool.{false, true≢false}
-use mathlib.Core.Option.{Option, none as nothing, some as just, none-ne-some, some-injective}
 use Prim.Native.Nat.{ℕ}
 use Rattle.lookup.specs.Lookup.{Name, Answers, Standing, needs, has, find, value, Completes}
 use Rattle.lookup.proofs.RunLaws.{has_value}
@@ -14,22 +14,23 @@ use Rattle.verdict.proofs.Mended.{errors_mended}
 use Rattle.book.specs.Book.{Book, walks, book_result}
 use Rattle.book.specs.BookClaims.{book_after}
 use Rattle.book.specs.MendedCalls.{AnswersMend, CallsMended}
+use Rattle.std.proofs.lemmas.Option.{none-some, same_Some}
 
 verdict_told : Back Verdict → Option Verdict
-verdict_told (ask_name n) = nothing
-verdict_told (verdict v c) = just v
-verdict_told accepted = nothing
-verdict_told (wrote n) = nothing
-verdict_told (refused f) = nothing
+verdict_told (ask_name n) = None
+verdict_told (verdict v c) = Some v
+verdict_told accepted = None
+verdict_told (wrote n) = None
+verdict_told (refused f) = None
 
 -- a result that is a verdict: the book then stands at it, and it is that of separate walks over any completion
 verdict_walked : (b : Book) (v : Verdict) (c : ℕ) → (book_result b).back ≡ verdict v c → (α : Name → Answer) → Completes α b.run.taken → value α (separate_walks b.message) ≡ v
 unfolding book_result result_of result_by verdict_told standing walks
 verdict_walked b v c e α agrees = has_value α b.run.taken agrees (separate_walks b.message) v (go (standing (walks b) b.run) (ap verdict_told e))
   where
-    go : (u : Standing Verdict) → verdict_told (result_by b.run u).back ≡ just v → u ≡ has v
-    go (needs n) f = absurd (none-ne-some v f)
-    go (has x) f = ap has (some-injective x v f)
+    go : (u : Standing Verdict) → verdict_told (result_by b.run u).back ≡ Some v → u ≡ has v
+    go (needs n) f = absurd (none-some v f)
+    go (has x) f = ap has (same_Some x v f)
 
 pub calls_mended : CallsMended
 unfolding CallsMended AnswersMend ErrorsMended Mends completed is_lookup_error
@@ -57,6 +58,6 @@ calls_mended m n cs ds one mend v w i j e f = rw (verdict_v, verdict_w) at (erro
     mends x h = go (find γ x) refl (find δ x) refl
       where
         go : (o : Option Answer) → find γ x ≡ o → (p : Option Answer) → find δ x ≡ p → β x ≡ α x
-        go o p nothing q = rw (q, completed)
-        go nothing p (just b) q = absurd (true≢false (rw (p, completed) at h))
-        go (just a) p (just b) q = completes δ α x b q ∙ mend x a b p q (ap is_lookup_error (sym (completes γ (λ _. lookup_error) x a p)) ∙ h) ∙ sym (completes γ (λ _. lookup_error) x a p)
+        go o p None q = rw (q, completed)
+        go None p (Some b) q = absurd (true≢false (rw (p, completed) at h))
+        go (Some a) p (Some b) q = completes δ α x b q ∙ mend x a b p q (ap is_lookup_error (sym (completes γ (λ _. lookup_error) x a p)) ∙ h) ∙ sym (completes γ (λ _. lookup_error) x a p)

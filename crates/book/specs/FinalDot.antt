@@ -1,6 +1,5 @@
 -- What is claimed of a final dot at an opening and an adding, and in the list of names asked (document 02, Ask 5).
-use Rattle.std.specs.Prelude.{◌≡◌, List, ◌++◌, true, ℕ}
-use Rattle.std.proofs.Math.Option.{some as just}
+use Rattle.std.specs.Prelude.{◌≡◌, List, ◌++◌, true, ℕ, Some}
 use Rattle.octets.specs.Octets.{Octets, octets}
 use Rattle.lookup.specs.Lookup.{Name, member}
 use Rattle.domain.specs.Domain.{Domain, without_dot, is_domain}
@@ -22,5 +21,5 @@ pub record OneName (m : Message) (cs : List Call) : Type 0 where
   -- no name of the list ends in a dot
   pub no_dot : Opened m → (n : Name) → member n (asked_names (book_after m cs).run) ≡ true → without_dot n ≡ n
   -- and an answer for the name now asked does the same if a dot is put to it
-  pub either : Opened m → (n : Name) → (book_after m cs).run.asked ≡ just n → (status : Status) (bytes scratch : Octets)
+  pub either : Opened m → (n : Name) → (book_after m cs).run.asked ≡ Some n → (status : Status) (bytes scratch : Octets)
       → book_answer (book_after m cs) (n ++ octets ".") status bytes scratch ≡ book_answer (book_after m cs) n status bytes scratch

@@ -1,6 +1,5 @@
 -- What an error can do to the verdict that calls give (document 02, Ask 6), by 01's book.
-use Rattle.std.specs.Prelude.{◌≡◌, List, false, ℕ}
-use Rattle.std.proofs.Math.Option.{some as just}
+use Rattle.std.specs.Prelude.{◌≡◌, List, false, ℕ, Some}
 use Rattle.lookup.specs.Lookup.{Name, Answers, find}
 use Rattle.txt.specs.Answers.{Answer}
 use Rattle.asking.specs.Asking.{verdict}
@@ -13,7 +12,7 @@ use Rattle.book.specs.BookClaims.{book_after}
 -- "the second being the first with any real answers for some or all errors", of accepted answers: where both have one for a name and the
 -- first's is no error, it is the same. Each may have names that the other does not, since its walks need not ask them
 unfoldable pub AnswersMend : (first second : Answers Answer) → Type 0
-AnswersMend β γ = (n : Name) (a b : Answer) → find β n ≡ just a → find γ n ≡ just b → is_lookup_error a ≡ false → b ≡ a
+AnswersMend β γ = (n : Name) (a b : Answer) → find β n ≡ Some a → find γ n ≡ Some b → is_lookup_error a ≡ false → b ≡ a
 
 -- for two lists of calls, refused ones too, that come to "one message" and after each of which the result is a verdict (so every name that its
 -- walks ask has an answer)

@@ -1,7 +1,6 @@
 -- What is claimed of address checks: document 02, Ask 11.
-use Rattle.std.specs.Prelude.{◌≡◌, true, false, ◌&&◌, ◌+◌, ◌≤◌, ◌<◌, eqb, leb, length, if◌then◌else◌}
+use Rattle.std.specs.Prelude.{◌≡◌, true, false, ◌&&◌, ◌+◌, ◌≤◌, ◌<◌, eqb, leb, length, if◌then◌else◌, Some}
 use mathlib.Core.List.{List, [], ◌∷◌, ◌++◌, flatten}
-use Rattle.std.proofs.Math.Option.{some as just}
 use Rattle.octets.specs.Octets.{Octets, is_empty, all, any, same, part_of}
 use Rattle.octets.specs.Refusing.{ok}
 use Rattle.octets.specs.declared.Refusal.{Refusal}
@@ -53,15 +52,15 @@ pub record CheckCallsHold (cs : List CheckCall) : Type 0 where
   -- "names for that one check, each asked once"
   pub names_of_the_check : asked_names (check_book cs).run ≡ once [] (names_since [] cs (check_gave cs))
   -- the mission's sentences on a run
-  pub check_run : (c : Pair) → (check_book cs).pair ≡ just c → RunHolds (check_lookups c) (check_book cs).run
+  pub check_run : (c : Pair) → (check_book cs).pair ≡ Some c → RunHolds (check_lookups c) (check_book cs).run
   -- "at most 17 in all"
   pub seventeen_asked : count (check_book cs).run ≤ 17
   -- "the confirming name last", of the names asked so far too
-  pub confirming_last_so_far : (c : Pair) → (check_book cs).pair ≡ just c
+  pub confirming_last_so_far : (c : Pair) → (check_book cs).pair ≡ Some c
       → member (confirming_name c.policy c.host) (asked_names (check_book cs).run) ≡ true
       → (ns : List Name) × (asked_names (check_book cs).run ≡ ns ++ (confirming_name c.policy c.host ∷ []))
   -- "an error in either gives not known, and after it nothing more is asked"; at the confirming name, "an error not known"
-  pub after_an_error : (c : Pair) → (check_book cs).pair ≡ just c → any (λ x. is_error (reply x.1)) (check_book cs).run.taken ≡ true
+  pub after_an_error : (c : Pair) → (check_book cs).pair ≡ Some c → any (λ x. is_error (reply x.1)) (check_book cs).run.taken ≡ true
       → standing (check_lookups c) (check_book cs).run ≡ has Agreement.NotKnown
   -- "A refusal leaves the evaluation and lent memory unchanged"
   pub refused_check_call_stands : (c : CheckCall) (f : Refusal) → (check_call (check_book cs) c).1.back ≡ refused f
@@ -72,17 +71,17 @@ pub record AddressesHold : Type 0 where
   pub calls_of_checks : (cs : List CheckCall) → CheckCallsHold cs
   -- "The first with an entry that 23 lets through replaces the address by its rua text, given as a place in the scratch, if every such host in it is
   -- the first host; another host makes the answer a plain no"
-  pub first_host_decides : (host : Domain) (bytes : Octets) (earlier later : List Octets) (text : Octets) → texts_read bytes ≡ just (earlier ++ text ∷ later)
+  pub first_host_decides : (host : Domain) (bytes : Octets) (earlier later : List Octets) (text : Octets) → texts_read bytes ≡ Some (earlier ++ text ∷ later)
       → all no_host earlier ≡ true → no_host text ≡ false
       → confirmation host (records bytes) ≡ (if only_host host text
       then Agreement.Replaced (record { begin = length (flatten earlier) + rua_begin text; length = rua_length text })
       else Agreement.PlainNo)
   -- "One policy record or more confirms, none is a plain no"
-  pub record_confirms : (host : Domain) (bytes : Octets) (ts : List Octets) → texts_read bytes ≡ just ts → all no_host ts ≡ true
+  pub record_confirms : (host : Domain) (bytes : Octets) (ts : List Octets) → texts_read bytes ≡ Some ts → all no_host ts ≡ true
       → confirmation host (records bytes) ≡ (if is_empty (policy_records ts) then Agreement.PlainNo else Agreement.Confirmed)
   -- "given as a place in the scratch": what replaces the address stands there after the answer
   pub in_the_scratch : (host : Domain) (bytes scratch : Octets) (b : Bounds) → confirmation host (records bytes) ≡ Agreement.Replaced b → 4096 ≤ length scratch
-      → (ts : List Octets) × (text : Octets) × (texts_read bytes ≡ just ts) × ReplacedBy host ts text
+      → (ts : List Octets) × (text : Octets) × (texts_read bytes ≡ Some ts) × ReplacedBy host ts text
       × (part_of (left_after (records bytes) scratch) b.begin (b.begin + b.length) ≡ rua_text text)
   -- "a second kind of run, every list of an address check's calls after its start, refused ones too, with a book like 01's", by the numbers given
   pub checks_as_the_book : (e : Check) (policy entry : Octets) (c : Pair) → check_started policy entry ≡ ok c

@@ -1,5 +1,5 @@
 -- What is claimed of every list of calls: the mission's demand 3, of document 01's book and of the calls themselves.
-use Rattle.std.specs.Prelude.{◌≡◌, List, [], map, true, false, ℕ, ◌+◌, ◌*◌, ◌≤◌, length}
+use Rattle.std.specs.Prelude.{◌≡◌, List, [], map, true, false, ℕ, ◌+◌, ◌*◌, ◌≤◌, length, Ok, Err}
 use Rattle.octets.specs.Octets.{Octets}
 use Rattle.octets.specs.Refusing.{ok, not_ok, refusal}
 use Rattle.octets.specs.declared.Refusal.{Refusal}
@@ -19,7 +19,6 @@ use Rattle.book.specs.Book.{Call, add, next, result, field, Book, opened, walks,
 use Rattle.book.specs.BookClaims.{book_after, book_gave, given_names, any_handed_out, accepted_addings, lent}
 use Rattle.evaluation.specs.declared.Evaluation.{Evaluation}
 use Rattle.evaluation.specs.declared.Changed.{Changed}
-use Rattle.evaluation.specs.declared.Acceptance.{Acceptance}
 use Rattle.evaluation.specs.GivenBack.{message_now}
 use Rattle.evaluation.specs.Promises.{Does, Changes, opened_view}
 use Rattle.evaluation.specs.Demand3.{Ran, unopened}
@@ -76,9 +75,9 @@ pub record CallsHold : Type 1 where
   pub no_field : (b : Book) (n : Name) (output : Octets) → standing (walks b) b.run ≡ needs n → book_call b (field output) ≡ (b, given (refused (refusal 7 0)) output)
   -- "opening keeps 1 and 3": accepted it says so; refused it says so, and gives back the very same evaluation
   pub opening_accepted : (author : Octets) (existence support : ℕ) (before : Evaluation) (r : Changed) → Changes before (opened_view (opening author existence support)) r
-      → (m : Message) → opening author existence support ≡ ok m → r.acceptance ≡ Acceptance.Accepted
+      → (m : Message) → opening author existence support ≡ ok m → r.acceptance ≡ (Ok tt)
   pub opening_refused : (author : Octets) (existence support : ℕ) (before : Evaluation) (r : Changed) → Changes before (opened_view (opening author existence support)) r
-      → (f : Refusal) → opening author existence support ≡ not_ok f → r ≡ record { evaluation = before; acceptance = Acceptance.Refused f }
+      → (f : Refusal) → opening author existence support ≡ not_ok f → r ≡ record { evaluation = before; acceptance = Err f }
   -- "the evaluation then stands as it did": a refused call gives back the very same evaluation
   pub evaluation_stands : (before after : Evaluation) (c : Call) (g : Given Verdict) (f : Refusal) → Does before c after g → g.back ≡ refused f → after ≡ before
   -- "After the list, all that the calls gave back and wrote is as in 01's book": of the calls themselves

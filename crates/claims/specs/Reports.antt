@@ -1,6 +1,5 @@
 -- What is claimed of aggregate reports (document 02, Ask 9).
-use Rattle.std.specs.Prelude.{◌≡◌, List, [], ◌++◌, Bool, true, false, not, ◌^◌, ◌≤◌, ◌<◌, length}
-use Rattle.std.proofs.Math.Option.{none as nothing}
+use Rattle.std.specs.Prelude.{◌≡◌, List, [], ◌++◌, Bool, true, false, not, ◌^◌, ◌≤◌, ◌<◌, length, None}
 use Rattle.octets.specs.Octets.{Octets, is_nothing, all}
 use Rattle.octets.specs.Refusing.{ok}
 use Rattle.policy.specs.declared.Settings.{Settings}
@@ -27,7 +26,7 @@ pub record ReportsHold : Type 0 where
   -- "and Ask 1's sum still holds": after every run of clearing and entering, the rows that a report has count the verdicts accepted since the clearing,
   -- told apart by whatever rows are
   pub counts_what_was_entered : (first last : DayList) (before after : List Row) (h : History)
-      → domain_in first ≡ nothing → Ran first before h last after → is_nothing (domain_in last) ≡ false
+      → domain_in first ≡ None → Ran first before h last after → is_nothing (domain_in last) ≡ false
       → (f : Seen → Bool) → total f (counted_rows (on_list after)) ≡ number f (since_clearing [] h)
   -- no report is longer
   pub longest_report : (l : Listing) (lists : Lists) (by : Reporter) (s : Settings) → by.begin < 2 ^ 64 → by.end < 2 ^ 64 → all typed_row (on_list l.rows) ≡ true

@@ -1,7 +1,6 @@
 -- What is claimed of document 02's requests, in its order.
-use Rattle.std.specs.Prelude.{◌≡◌, ◌⊎◌, ◌↔◌, Bool, true, false, ℕ, suc, ◌+◌, ◌≤◌, ◌<◌, eqb, length, take, get_or}
+use Rattle.std.specs.Prelude.{◌≡◌, ◌⊎◌, ◌↔◌, Bool, true, false, ℕ, suc, ◌+◌, ◌≤◌, ◌<◌, eqb, length, take, get_or, Err, Some, None, Result as OrErr}
 use mathlib.Core.List.{List, [], ◌∷◌, ◌++◌, map, flatten}
-use Rattle.std.proofs.Math.Option.{none as nothing, some as just}
 use Rattle.octets.specs.Octets.{Octets, octets, is_nothing, same_text}
 use Rattle.octets.specs.Refusing.{ok, not_ok, refusal}
 use Rattle.octets.specs.declared.Refusal.{Refusal}
@@ -11,7 +10,6 @@ use Rattle.domain.specs.FinalDot.{FinalDot}
 use Rattle.policy.specs.Repeated.{Repeated}
 use Rattle.policy.specs.Records.{read_policy, rua_text}
 use Rattle.policy.specs.declared.Settings.{Settings}
-use Rattle.policy.specs.declared.Reading.{Reading}
 use Rattle.force.specs.InForce.{usable}
 use Rattle.publishing.specs.Publishing.{good_rua, written_record}
 use Rattle.publishing.specs.Claims.{beside, Reads}
@@ -23,7 +21,6 @@ use Rattle.reporting.specs.Field.{is_listed, field_text}
 use Rattle.field.specs.Field.{dkim, spf, id_align, field_naming, repeating, any_depth}
 use Rattle.field.specs.Claims.{NoRepeats}
 use Rattle.field.specs.Examples.{FieldsRead}
-use Rattle.field.specs.declared.FieldRead.{FieldRead}
 use Rattle.field.specs.Numbers.{field_read, field_read_numbers, field_read_said}
 use Rattle.field.specs.code.Reading.{read_field}
 use Rattle.txt.specs.declared.Reply.{Reply}
@@ -70,15 +67,15 @@ use Rattle.claims.specs.Reports.{ReportsHold}
 pub record RowsHold : Type 0 where
   -- "the sum of all counts equals the number of verdicts accepted since the list was cleared, that number taken from the history of calls"
   pub sum : (first last : DayList) (before after : List Row) (h : History)
-      → domain_in first ≡ nothing → Ran first before h last after → is_nothing (domain_in last) ≡ false
+      → domain_in first ≡ None → Ran first before h last after → is_nothing (domain_in last) ≡ false
       → total (λ _. true) (on_list after) ≡ length (since_clearing [] h)
   -- "and so each disposition's total"
   pub by_disposition : (first last : DayList) (before after : List Row) (h : History)
-      → domain_in first ≡ nothing → Ran first before h last after → is_nothing (domain_in last) ≡ false
+      → domain_in first ≡ None → Ran first before h last after → is_nothing (domain_in last) ≡ false
       → (d : ℕ) → total (λ s. eqb d s.disposition) (on_list after) ≡ number (λ s. eqb d s.disposition) (since_clearing [] h)
   -- and the total of whatever else rows are told apart by
   pub by_any : (first last : DayList) (before after : List Row) (h : History)
-      → domain_in first ≡ nothing → Ran first before h last after → is_nothing (domain_in last) ≡ false
+      → domain_in first ≡ None → Ran first before h last after → is_nothing (domain_in last) ≡ false
       → (f : Seen → Bool) → total f (on_list after) ≡ number f (since_clearing [] h)
   -- "Rows past the 256th are no part of the list and not touched", and none is lost
   pub past_untouched : (first last : DayList) (before after : List Row) (h : History) → Ran first before h last after → past_list after ≡ past_list before
@@ -96,7 +93,7 @@ pub record RowsHold : Type 0 where
   pub finds_the_book : (author : Octets) (existence support : ℕ) (before : Evaluation) (r : Changed) → Changes before (opened_view (opening author existence support)) r
       → (m : Message) → opening author existence support ≡ ok m
       → (cs : List Call) (e : Evaluation) → Left r.evaluation cs e
-      → (f : Found) → Finds e f → found_in (message_now e) f ≡ finding_by (book_after m cs).message (standing (walks (book_after m cs)) (book_after m cs).run)
+      → (f : OrErr Found Refusal) → Finds e f → found_in (message_now e) f ≡ finding_by (book_after m cs).message (standing (walks (book_after m cs)) (book_after m cs).run)
 
 -- ------------------------------------------------------------------ Ask 4: writing policy records
 
@@ -104,11 +101,11 @@ pub record RecordsHold : Type 0 where
   -- "Reading what was written gives back the same settings"
   pub reads_back : (s : Settings) (rua text : Octets) → written_record s rua ≡ ok text → Reads text (beside rua s) rua
   -- "Reading any usable record whose rua refusal 16 allows, and writing it, gives a text with the same settings"
-  pub same_settings : (old : Octets) (s : Settings) → read_policy old ≡ Reading.Record s → usable s ≡ true → good_rua (rua_text old) ≡ true
+  pub same_settings : (old : Octets) (s : Settings) → read_policy old ≡ Some s → usable s ≡ true → good_rua (rua_text old) ≡ true
       → (new : Octets) × (written_record s (rua_text old) ≡ ok new) × Reads new s (rua_text old)
   -- "and doing so again changes no octet"
-  pub no_octet : (old new : Octets) (s again : Settings) → read_policy old ≡ Reading.Record s → written_record s (rua_text old) ≡ ok new
-      → read_policy new ≡ Reading.Record again → written_record again (rua_text new) ≡ ok new
+  pub no_octet : (old new : Octets) (s again : Settings) → read_policy old ≡ Some s → written_record s (rua_text old) ≡ ok new
+      → read_policy new ≡ Some again → written_record again (rua_text new) ≡ ok new
   -- settings by numbers, handed out and handed in again, are the same
   pub numbers_back : (s : Settings) → settings_in (numbers_of s) ≡ beside [] s
   -- "`v=DMARC1`, then p, sp, np, adkim, aspf, psd, t, rua in that order ..": computed
@@ -127,7 +124,7 @@ pub record DotsHold : Type 0 where
       → adding m (record { kind = kind; outcome = outcome; domain = d ++ octets "." }) ≡ adding m (record { kind = kind; outcome = outcome; domain = d })
   -- "one name in demand 3's list": no name of it ends in a dot, and an answer for it does the same if a dot is put to it
   pub no_dot_asked : (m : Message) (cs : List Call) → Opened m → (n : Name) → member n (asked_names (book_after m cs).run) ≡ true → without_dot n ≡ n
-  pub answer_dot : (m : Message) (cs : List Call) → Opened m → (n : Name) → (book_after m cs).run.asked ≡ just n → (status : Status) (bytes scratch : Octets)
+  pub answer_dot : (m : Message) (cs : List Call) → Opened m → (n : Name) → (book_after m cs).run.asked ≡ Some n → (status : Status) (bytes scratch : Octets)
       → book_answer (book_after m cs) (n ++ octets ".") status bytes scratch ≡ book_answer (book_after m cs) n status bytes scratch
   -- "on a sheet both answered is refusal 8": each is kept without the dot, so they are one name
   pub sheet_dot : (sheet : Octets) (a b : List Entry) (n : Octets) (s : Status) (x : Octets) → entries sheet ≡ ok (a ++ answer_entry n s x ∷ b) → without_dot n ≡ n
@@ -174,7 +171,7 @@ pub record FieldsHold : Type 0 where
   pub field_reads_back : (dkim spf : Method) → read_field (field_text dkim spf) ≡ ok (record { dkim = is_listed dkim; spf = is_listed spf })
   -- what the reader answers says it: by numbers nothing is lost, and a refused field never reads as `none`
   pub field_numbers_say : (text : Octets) → field_read_said (field_read_numbers (field_read text)) ≡ field_read text
-  pub refused_names_both : (r : Refusal) → field_read_numbers (FieldRead.Refused r) ≡ record { refusal = r; dkim = 1; spf = 1 }
+  pub refused_names_both : (r : Refusal) → field_read_numbers (Err r) ≡ record { refusal = r; dkim = 1; spf = 1 }
   -- computed
   pub fields_read : FieldsRead
 

@@ -1,6 +1,5 @@
 -- What is claimed of names, answers, walks and sheets: document 01's rules, and the readings "that look right and aren't".
-use Rattle.std.specs.Prelude.{◌≡◌, List, [], ◌∷◌, ◌++◌, true, false, ℕ, ◌-◌, ◌≤◌, ◌<◌, min, length, drop, get_or}
-use Rattle.std.proofs.Math.Option.{some as just}
+use Rattle.std.specs.Prelude.{◌≡◌, List, [], ◌∷◌, ◌++◌, true, false, ℕ, ◌-◌, ◌≤◌, ◌<◌, min, length, drop, get_or, Some}
 use Rattle.octets.specs.Octets.{Octets, all, is_nothing, same_text}
 use Rattle.octets.specs.Refusing.{ok}
 use Rattle.lookup.specs.Lookup.{Name, value, list}
@@ -30,7 +29,7 @@ pub record RulesHold : Type 0 where
   -- ---------------------------------------------------------------- answers
   -- not "Reading two records as the first": there is none
   pub two_records : (bytes : Octets) (ts : List Octets) (s r : Settings) (more : List Settings)
-      → texts_read bytes ≡ just ts → policy_records ts ≡ s ∷ r ∷ more → reply (records bytes) ≡ Reply.NoRecord
+      → texts_read bytes ≡ Some ts → policy_records ts ≡ s ∷ r ∷ more → reply (records bytes) ≡ Reply.NoRecord
   -- not "a timeout as none": it is an error
   pub timeout : reply lookup_error ≡ Reply.Error
   pub none : reply no_records ≡ Reply.NoRecord
@@ -43,7 +42,7 @@ pub record RulesHold : Type 0 where
   pub eight_names : (α : Name → Reply) (d : Domain) → length (list α (organizational_domain d)) ≤ 8
   -- not "Letting psd=y at the starting name put the organizational domain below it": it is the start
   pub psd_at_start : (α : Name → Reply) (d : Domain) (s : Settings)
-      → value α (record_at d) ≡ Reply.Record s → s.psd ≡ Psd.Yes → value α (organizational_domain d) ≡ just d
+      → value α (record_at d) ≡ Reply.Record s → s.psd ≡ Psd.Yes → value α (organizational_domain d) ≡ Some d
   -- not "Taking the nearest record as the organizational one without psd=n": it is the farthest
   pub farthest : (start : Domain) (nearer : List Found) (f : Found)
       → all (λ g. is_unset g.settings.psd) (nearer ++ (f ∷ [])) ≡ true → organizational start (nearer ++ (f ∷ [])) ≡ f.domain

@@ -1,7 +1,6 @@
 -- What is claimed of every lookup program that is run by calls, wherever these have left it: the sentences of the mission's demand 3 that do not
 -- speak of messages.
-use Rattle.std.specs.Prelude.{◌≡◌, List, [], ◌++◌, true, ◌≤◌, ◌<◌, length}
-use Rattle.std.proofs.Math.Option.{some as just}
+use Rattle.std.specs.Prelude.{◌≡◌, List, [], ◌++◌, true, ◌≤◌, ◌<◌, length, Some}
 use Rattle.octets.specs.Octets.{Octets, same_text}
 use Rattle.octets.specs.Refusing.{refusal}
 use Rattle.octets.specs.declared.Refusal.{Refusal}
@@ -34,8 +33,8 @@ pub record RunHolds {R A : Type 0} (t : Lookups R A) (s : Asking R) : Type 0 whe
   -- and at the verdict every name of the list is answered
   pub not_before_last : (a : A) → standing t s ≡ has a → (α : Name → R) → Completes α s.taken → names s.taken ≡ list α t
   -- an answer that can be read, for the name now asked, in either case and with a final dot or without, with scratch enough, is kept
-  pub readable_is_kept : (n : Name) → s.asked ≡ just n → (name : Octets) → same_text (without_dot name) n ≡ true
-      → (a : Answer) (ts : List Octets) → texts a ≡ just ts → (r : R) (scratch : Octets) → 4096 ≤ length scratch
+  pub readable_is_kept : (n : Name) → s.asked ≡ Some n → (name : Octets) → same_text (without_dot name) n ≡ true
+      → (a : Answer) (ts : List Octets) → texts a ≡ Some ts → (r : R) (scratch : Octets) → 4096 ≤ length scratch
       → take {A = A} s name a r scratch ≡ (kept s n r, given accepted (scratch_after ts scratch))
   -- "A refusal leaves the evaluation and lent memory unchanged"; "after a refused answer the name asked, if any, still stands"
   pub refused_answer_stands : (name : Octets) (a : Answer) (r : R) (scratch : Octets) (f : Refusal) → (take {A = A} s name a r scratch).1.back ≡ refused f

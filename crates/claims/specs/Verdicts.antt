@@ -1,10 +1,9 @@
 -- What is claimed of verdicts: the mission's demand 2.
-use Rattle.std.specs.Prelude.{◌≡◌, true, ◌+◌, ◌*◌, ◌≤◌, length}
+use Rattle.std.specs.Prelude.{◌≡◌, true, ◌+◌, ◌*◌, ◌≤◌, length, Some}
 use mathlib.Core.List.{map, flatten}
 use Rattle.octets.specs.Octets.{octets, any}
 use Rattle.lookup.specs.Lookup.{Name, value, list}
 use Rattle.policy.specs.declared.Settings.{Settings}
-use Rattle.force.specs.declared.InForce.{InForce}
 use Rattle.txt.specs.declared.Reply.{Reply}
 use Rattle.reporting.specs.Examples.{Examples}
 use Rattle.book.specs.FieldExamples.{FieldsWritten}
@@ -18,7 +17,7 @@ use Rattle.sheet.specs.Marked.{table}
 pub record VerdictsHold : Type 0 where
   -- "Where the answers hold no error and a usable record applies, the result is pass exactly when some passing SPF or DKIM domain aligns
   -- with the author domain", and beside errors too
-  pub pass_exactly : (α : Name → Reply) (m : Message) (s : Settings) → applied_settings (value α (applied_record m.author)) ≡ InForce.Usable s
+  pub pass_exactly : (α : Name → Reply) (m : Message) (s : Settings) → applied_settings (value α (applied_record m.author)) ≡ Some s
       → is_pass (value α (evaluate m)).result ≡ any (aligns α s m.author) m.identifiers
   -- "A lookup without an answer is never read as an empty one": with an error among the answers asked for, the result is pass or temperror
   pub error_shows : (α : Name → Reply) (m : Message) → holds_error α (list α (evaluate m)) ≡ true → passed_or_temperror (value α (evaluate m)).result ≡ true

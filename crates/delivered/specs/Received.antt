@@ -1,7 +1,6 @@
 -- What is claimed of reading aggregate reports as they arrive (document 02, Ask 10).
-use Rattle.std.specs.Prelude.{◌≡◌, ◌⊎◌, true, ℕ, suc, ◌≤◌, ◌<◌, length, take}
+use Rattle.std.specs.Prelude.{◌≡◌, ◌⊎◌, true, ℕ, suc, ◌≤◌, ◌<◌, length, take, Some}
 use mathlib.Core.List.{List, ◌++◌, map, flatten}
-use Rattle.std.proofs.Math.Option.{some as just}
 use Rattle.octets.specs.Octets.{Octets}
 use Rattle.octets.specs.Refusing.{ok, not_ok, refusal}
 use Rattle.octets.specs.declared.Refusal.{Refusal}
@@ -23,13 +22,13 @@ pub record TextsRead : Type 0 where
   -- "Read the form that Ask 9 writes from any rows": what it writes is of the form
   pub written_in_form : (l : Listing) (lists : Lists) (by : Reporter) (s : Settings) (t : Octets) → Kept l by → report l lists by s ≡ ok t
       → (w : Writing) × (good widths w ≡ true) × (w.reporter.begin ≤ w.reporter.end) × (text_of w ≡ t)
-      × (lines lists (counted_rows (on_list l.rows)) ≡ just w.lines)
+      × (lines lists (counted_rows (on_list l.rows)) ≡ Some w.lines)
   -- and each text of the form, its end not below its begin, is one that it writes
   pub form_written : (w : Writing) → good widths w ≡ true → w.reporter.begin ≤ w.reporter.end
       → (l : Listing) × (lists : Lists) × Kept l w.reporter × (report l lists w.reporter w.settings ≡ ok (text_of w))
   -- "Reading a written report gives the rows written, in order, domains and selectors as it spells them, DKIM before SPF, SPF without selector"
   pub reads_written : (l : Listing) (lists : Lists) (by : Reporter) (s : Settings) (t : Octets) → Kept l by → report l lists by s ≡ ok t
-      → (ls : List Line) × (lines lists (counted_rows (on_list l.rows)) ≡ just ls) × (read_report t ≡ (map said ls, ok tt))
+      → (ls : List Line) × (lines lists (counted_rows (on_list l.rows)) ≡ Some ls) × (read_report t ≡ (map said ls, ok tt))
   -- and nothing else is accepted
   pub accepted_exactly : (s : Octets) (rows : List Said) → read_report s ≡ (rows, ok tt)
       → (w : Writing) × (good widths w ≡ true) × (w.reporter.begin ≤ w.reporter.end) × (text_of w ≡ s) × (map said w.lines ≡ rows)

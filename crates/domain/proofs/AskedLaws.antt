@@ -1,8 +1,8 @@
 -- The asked names of a domain that keeps the rule keep it too.
+use Rattle.std.specs.Prelude.{Option, None, Some}
 use mathlib.Core.Path.{◌≡◌, refl, ap, sym, ◌∙◌}
 use mathlib.Core.List.{List, [], ◌∷◌, map}
 use mathlib.Core.Bool.{Bool, true, false, ◌&&◌, or-true}
-use mathlib.Core.Option.{Option, none as nothing, some as just}
 use Prim.Native.Nat.{ℕ, zero, suc, ◌+◌, ◌-◌, ◌≤◌, ◌<◌}
 use native.Mathlib.Omega.{arith}
 use lib.Dec.{eqb, leb}
@@ -71,14 +71,14 @@ lower_labels (x ∷ d) = go (lower_labels d) (eqb x 46) refl
 
 -- ------------------------------------------------------------------ good labels
 
-good_labels : (at : ℕ) (ls : List Octets) → first_bad at ls ≡ nothing → all good_label ls ≡ true
+good_labels : (at : ℕ) (ls : List Octets) → first_bad at ls ≡ None → all good_label ls ≡ true
 unfolding all
 good_labels at [] e = refl
 good_labels at (l ∷ ls) e =
     let g = no_fault_here at l ls e in
     rw g (good_labels (at + length l + 1) ls (sym (fault_next at l ls g) ∙ e))
 
-none_bad : (at : ℕ) (ls : List Octets) → all good_label ls ≡ true → first_bad at ls ≡ nothing
+none_bad : (at : ℕ) (ls : List Octets) → all good_label ls ≡ true → first_bad at ls ≡ None
 unfolding all first_bad
 none_bad at [] e = refl
 none_bad at (l ∷ ls) e =
@@ -98,13 +98,13 @@ good_lower (l ∷ ls) e = let (g, rest) = and_true (good_label l) (all good_labe
 
 -- ------------------------------------------------------------------ whole domains
 
-pub rule_no_fault : (d : Domain) → is_domain d ≡ true → domain_fault d ≡ nothing
+pub rule_no_fault : (d : Domain) → is_domain d ≡ true → domain_fault d ≡ None
 unfolding kept_or_not
 rule_no_fault d e = go (domain_fault d) refl
   where
-    go : (o : Option ℕ) → domain_fault d ≡ o → domain_fault d ≡ nothing
-    go nothing f = f
-    go (just at) f = let g : false ≡ true = sym (rule_fault d ∙ ap kept_or_not f) ∙ e in let z : ◌≡◌ {A = ℕ} 0 1 = cc in absurd (omega arith)
+    go : (o : Option ℕ) → domain_fault d ≡ o → domain_fault d ≡ None
+    go None f = f
+    go (Some at) f = let g : false ≡ true = sym (rule_fault d ∙ ap kept_or_not f) ∙ e in let z : ◌≡◌ {A = ℕ} 0 1 = cc in absurd (omega arith)
 
 pub all_good : (d : Domain) → is_domain d ≡ true → all good_label (labels d) ≡ true
 all_good d e = good_labels 0 (labels d) (no_fault d (rule_no_fault d e))

@@ -23,16 +23,14 @@ pub fn find_starts(s: &[u8]) -> Starts
     let mut begins = [Octet(0); 8];
     let mut labels = 1;
     let mut rounds = 0;
-    let mut i = s.len();
-    while 0 < i {
-        if s[i - 1] == b'.' {
+    for i in (0..s.len()).rev() {
+        if s[i] == b'.' {
             if labels <= 8 {
-                begins[labels - 1] = Octet(i);
+                begins[labels - 1] = Octet(i + 1);
             }
-            labels = labels + 1;
+            labels += 1;
         }
-        i = i - 1;
-        rounds = rounds + 1;
+        rounds += 1;
     }
     Starts {
         begins,
@@ -45,32 +43,22 @@ pub fn find_starts(s: &[u8]) -> Starts
 pub fn count_targets(t: Starts) -> Labels
     ensures { result.0 ≡ min 8 t.labels.0 }
 {
-    let n = t.labels.0;
-    if 8 < n {
-        return Labels(8);
-    }
-    Labels(n)
+    Labels(t.labels.0.min(8))
 }
 
 // The target that has n labels left; the first one has all. The whole domain, where a pass places no such target.
 pub fn find_target(t: Starts, n: Labels) -> Target
     ensures { result ≡ target_by t.begins n.0 }
 {
-    let whole = Target {
-        begin: Octet(0),
-        wider: Octet(0),
-    };
-    let k = n.0;
-    if k == 0 {
-        return whole;
-    }
-    if 8 <= k {
-        return whole;
-    }
-    let before = k - 1;
-    Target {
-        begin: t.begins[before],
-        wider: t.begins[k],
+    match n.0 {
+        k @ 1..=7 => Target {
+            begin: t.begins[k - 1],
+            wider: t.begins[k],
+        },
+        _ => Target {
+            begin: Octet(0),
+            wider: Octet(0),
+        },
     }
 }
 
@@ -78,10 +66,7 @@ pub fn find_target(t: Starts, n: Labels) -> Target
 pub fn clip(s: &[u8], at: Octet) -> Octet
     ensures { result.0 ≡ min at.0 (length s.now) }
 {
-    if s.len() < at.0 {
-        return Octet(s.len());
-    }
-    at
+    Octet(at.0.min(s.len()))
 }
 
 // Whether the target that begins at a place is asked.

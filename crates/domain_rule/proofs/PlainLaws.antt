@@ -1,7 +1,6 @@
 -- Laws of the domain rule, read from the end of a text, octet by octet.
 use mathlib.Core.Path.{◌≡◌, refl, ap, ap₂, sym, ◌∙◌}
 use mathlib.Core.List.{List, [], ◌∷◌}
-use mathlib.Core.Option.{none as nothing}
 use mathlib.Core.Bool.{Bool, true, false, ◌&&◌, not, true≢false}
 use Prim.Native.Nat.{ℕ, suc, ◌+◌, ◌-◌, ◌≤◌, ◌<◌, ◌/◌}
 use native.Mathlib.Omega.{arith}
@@ -9,7 +8,7 @@ use lib.Dec.{eqb, leb}
 use lib.ListN.{length, drop, get_or}
 use lib.Seq.{drop-cons}
 use borrow.Author.Tests.{le-leb, eqb-true}
-use Rattle.std.specs.Prelude.{if◌then◌else◌}
+use Rattle.std.specs.Prelude.{if◌then◌else◌, None}
 use Rattle.octets.specs.Octets.{Octets, is_empty, all, onto_first, split, made_of}
 use Rattle.octets.proofs.Computing.{octets_computes}
 use Rattle.domain.specs.Domain.{Domain, domain_octet, labels, good_label, first_bad, label_count}
@@ -154,7 +153,7 @@ good_both l e f = go (not (is_empty l)) (leb (length l) 63) (all domain_octet l)
     go true false c e f = absurd (true≢false (sym f))
     go false b c e f = absurd (true≢false (sym e))
 
-pub no_bad : (at : ℕ) (ls : List Octets) → all some_label ls ≡ true → all short_label ls ≡ true → first_bad at ls ≡ nothing
+pub no_bad : (at : ℕ) (ls : List Octets) → all some_label ls ≡ true → all short_label ls ≡ true → first_bad at ls ≡ None
 unfolding all first_bad
 no_bad at [] e f = refl
 no_bad at (l ∷ ls) e f =

@@ -10,13 +10,6 @@ ghost use Rattle.domain_rule.specs.code.Scanning.{Classes, some_label, short_lab
 use domain::{Labels, Octet};
 use text_class::Class;
 
-// Whether a text keeps the domain rule: how many labels it has, or where it first breaks the rule.
-#[derive(Clone, Copy)]
-pub enum Checked {
-    Good(Labels),
-    Bad(Octet),
-}
-
 // The class of each octet in a domain, 16 to a row: 0 in a label, 1 a dot, 2 another.
 const CLASSES: [u8; 256] = *b"\
     \x02\x02\x02\x02\x02\x02\x02\x02\x02\x02\x02\x02\x02\x02\x02\x02\
@@ -36,39 +29,24 @@ const CLASSES: [u8; 256] = *b"\
     \x02\x02\x02\x02\x02\x02\x02\x02\x02\x02\x02\x02\x02\x02\x02\x02\
     \x02\x02\x02\x02\x02\x02\x02\x02\x02\x02\x02\x02\x02\x02\x02\x02";
 
-// What one pass over a text finds: 0 if nothing is wrong, and then the number of labels.
-#[derive(Clone, Copy)]
-struct Scanned {
-    wrong: usize,
-    labels: usize,
-}
-
-// An octet as a number.
-fn wide(x: u8) -> usize
-    ensures { (result ≡ x) × (result < 256) }
-{
-    x as usize
-}
-
-// Whether an octet is wrong or a label empty, from the end on, with no branch for each octet.
-fn scan(s: &[u8], classes: &[u8; 256]) -> Scanned
+// The number of labels, where no octet is wrong and no label empty: from the end on, with no branch for each octet.
+fn scan(s: &[u8], classes: &[u8; 256]) -> Option<Labels>
     requires { Classes classes.now × (length s.now ≤ 253) }
-    ensures { result.wrong ≡ 0 → (all some_label (labels s.now) ≡ true) × (result.labels ≡ label_count s.now) }
+    ensures { (n : Labels) → result ≡ Some n → (all some_label (labels s.now) ≡ true) × (n.0 ≡ label_count s.now) }
 {
     let mut wrong = 0;
     let mut dots = 0;
     let mut after = 1;
-    let mut i = s.len();
-    while 0 < i {
-        let class = wide(classes[wide(s[i - 1])]);
-        wrong = wrong + (class + after) / 2;
-        dots = dots + class;
+    for i in (0..s.len()).rev() {
+        let class = usize::from(classes[usize::from(s[i])]);
+        wrong += (class + after) / 2;
+        dots += class;
         after = class;
-        i = i - 1;
     }
-    Scanned {
-        wrong: wrong + after,
-        labels: dots + 1,
+    if wrong + after == 0 {
+        Some(Labels(dots + 1))
+    } else {
+        None
     }
 }
 
@@ -82,15 +60,9 @@ fn is_short(s: &[u8]) -> bool
     }
     let mut over: usize = 0;
     let mut run: usize = 0;
-    let mut i = s.len();
-    while 0 < i {
-        if s[i - 1] == b'.' {
-            run = 0;
-        } else {
-            run = run + 1;
-        }
-        over = over + run / 64;
-        i = i - 1;
+    for i in (0..s.len()).rev() {
+        run = if s[i] == b'.' { 0 } else { run + 1 };
+        over += run / 64;
     }
     over == 0
 }
@@ -102,61 +74,47 @@ fn is_label(s: &[u8]) -> bool
     text_front::is_made_of(s, Class::Word(b'-', b'_', b'_'), 63)
 }
 
-// The length of a text's first label: up to its first dot, or its end.
-fn first_label(s: &[u8]) -> usize
-    ensures { result ≡ length (front (λ x. not (eqb x 46)) s.now) }
-{
-    text_front::find_octet(s, b'.')
-}
-
 // The domain rule, label by label.
-fn check_labels(s: &[u8]) -> Checked
+fn check_labels(s: &[u8]) -> Result<Labels, Octet>
     ensures { result ≡ checked s.now }
 {
     let mut begin = 0;
     let mut labels = 1;
-    let mut size = first_label(s);
-    while begin + size < s.len() {
-        if !is_label(&s[begin..begin + size]) {
-            return Checked::Bad(Octet(begin));
+    loop {
+        let rest = &s[begin..];
+        let size = text_front::find_octet(rest, b'.');
+        if !is_label(&rest[..size]) {
+            return Err(Octet(begin));
         }
-        begin = begin + size + 1;
-        labels = labels + 1;
-        size = first_label(&s[begin..]);
+        if size == rest.len() {
+            break;
+        }
+        begin += size + 1;
+        labels += 1;
     }
-    if !is_label(&s[begin..]) {
-        return Checked::Bad(Octet(begin));
+    if s.len() <= 253 {
+        Ok(Labels(labels))
+    } else {
+        Err(Octet(253))
     }
-    if 253 < s.len() {
-        return Checked::Bad(Octet(253));
-    }
-    Checked::Good(Labels(labels))
 }
 
 // The domain rule, by its table. A text that breaks it is gone through again, for the place.
-pub fn check(s: &[u8]) -> Checked
+pub fn check(s: &[u8]) -> Result<Labels, Octet>
     ensures { result ≡ checked s.now }
 {
     if 253 < s.len() {
         return check_labels(s);
     }
-    let classes = CLASSES;
-    let scanned = scan(s, &classes);
-    if 0 < scanned.wrong {
-        return check_labels(s);
+    match scan(s, &CLASSES) {
+        Some(labels) if is_short(s) => Ok(labels),
+        _ => check_labels(s),
     }
-    if !is_short(s) {
-        return check_labels(s);
-    }
-    Checked::Good(Labels(scanned.labels))
 }
 
 // Whether a text keeps the domain rule.
 pub fn is_domain(s: &[u8]) -> bool
     ensures { result ≡ is_domain s.now }
 {
-    match check(s) {
-        Checked::Good(_) => true,
-        Checked::Bad(_) => false,
-    }
+    check(s).is_ok()
 }

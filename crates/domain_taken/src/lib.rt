@@ -8,12 +8,8 @@ ghost use Rattle.domain.specs.Domain.{without_dot};
 pub fn without_dot(s: &[u8]) -> &[u8]
     ensures { result.now ≡ without_dot s.now }
 {
-    if s.len() == 0 {
-        return s;
+    match s {
+        [whole @ .., b'.'] => whole,
+        _ => s,
     }
-    let last = s.len() - 1;
-    if s[last] != b'.' {
-        return s;
-    }
-    &s[0..last]
 }

@@ -1,4 +1,5 @@
 -- Laws of the calls: what an evaluation keeps after each, and what each gives.
+use Rattle.std.specs.Prelude.{Ok, Err}
 use mathlib.Core.Path.{◌≡◌, refl, ap, sym, ◌∙◌}
 use mathlib.Core.List.{[]}
 use mathlib.Core.Bool.{true, false}
@@ -15,7 +16,6 @@ use Rattle.verdict_judgement.specs.Reading.{verdict_in}
 use Rattle.verdict_cursor.specs.code.Cursor.{stands}
 use Rattle.evaluation.specs.declared.Evaluation.{Evaluation}
 use Rattle.evaluation.specs.declared.Step.{Step}
-use Rattle.evaluation.specs.declared.Resulting.{Resulting}
 use Rattle.asking.specs.Asking.{given}
 use Rattle.book.specs.Book.{next}
 use Rattle.evaluation.specs.code.Machine.{keeps_nothing, keeps_opened, next_at, judged_by, judged_at, judged, result_back, machine_call}
@@ -39,16 +39,16 @@ replies_length e full = kept_length e.domains e.count 136 e.kept full
 -- ------------------------------------------------------------------ result
 
 module _ (e : Evaluation) where
-  pub result_refused : (f : Refusal) → judged (view e) ≡ not_ok f → DoesResult e (Resulting.Refused f)
+  pub result_refused : (f : Refusal) → judged (view e) ≡ not_ok f → DoesResult e (Err f)
   unfolding machine_call result_back resulting_back resulting_in ResultFixed
   result_refused f h = record { does = record { leaves = refl; gives = rw h; stands = λ x. refl; same_domains = λ x. (refl, refl); numbers = λ n. n }; says = sym h; fixed = tt }
 
-  pub result_not_started : e.started ≡ false → DoesResult e (Resulting.Refused (refusal 7 0))
+  pub result_not_started : e.started ≡ false → DoesResult e (Err (refusal 7 0))
   unfolding view view_by keeps_nothing judged judged_at
   result_not_started s = result_refused (refusal 7 0) (rw s)
 
   module _ (s : e.started ≡ true) where
-    pub result_not_handed : e.handed ≡ false → DoesResult e (Resulting.Refused (refusal 7 0))
+    pub result_not_handed : e.handed ≡ false → DoesResult e (Err (refusal 7 0))
     unfolding view view_by keeps_opened judged judged_at
     result_not_handed h = result_refused (refusal 7 0) (rw (s, h))
 
@@ -62,12 +62,12 @@ module _ (e : Evaluation) where
       replies_kept = rw (s, h)
 
       pub result_missing : (walk : ℕ) (place : Octet) → judged_standing e.domains e.numbers e.terms (Judged.Missing walk place) ≡ stands (message_now e) (cursor_now e)
-          → DoesResult e (Resulting.Refused (refusal 7 0))
+          → DoesResult e (Err (refusal 7 0))
       unfolding judged_standing judged_by
       result_missing walk place u = result_refused (refusal 7 0) (rw (judged_standing_now, ← u))
 
       pub result_verdict : (j : Judgement) → judged_standing e.domains e.numbers e.terms (Judged.Done j) ≡ stands (message_now e) (cursor_now e) → Fixed (message_now e) j
-          → length e.kept ≡ 408 → (n : ℕ) → n ≡ min e.count 136 → DoesResult e (Resulting.Verdict (record { judgement = j; count = n }))
+          → length e.kept ≡ 408 → (n : ℕ) → n ≡ min e.count 136 → DoesResult e (Ok (record { judgement = j; count = n }))
       unfolding machine_call judged_standing message_now judged_by result_back resulting_back resulting_in ResultFixed
       result_verdict j u x full n f =
           let done : judged (view e) ≡ ok (message_now e, verdict_in (message_now e) j) = rw (judged_standing_now, ← u) in

@@ -2,13 +2,12 @@
 use mathlib.Core.Path.{◌≡◌, refl, ap, ap₂, sym, ◌∙◌, subst}
 use mathlib.Core.List.{List, [], ◌∷◌, ◌++◌, map-append}
 use mathlib.Core.Bool.{Bool, true, false, and-true, or-true}
-use mathlib.Core.Option.{Option, none as nothing, some as just, map, none-ne-some, some-injective}
 use Prim.Native.Nat.{suc}
 use native.Mathlib.Omega.{arith}
 use lib.Dec.{leb}
 use lib.ListN.{length}
 use borrow.Author.Tests.{lt-ltb}
-use Rattle.std.specs.Prelude.{if◌then◌else◌}
+use Rattle.std.specs.Prelude.{if◌then◌else◌, Option, None, Some, option_map}
 use Rattle.octets.specs.Octets.{Octets, same, same_text}
 use Rattle.octets.specs.Refusing.{OrRefused, ok, not_ok, ◌>>=◌, refusal, refuse_if}
 use Rattle.octets.specs.Lent.{written_if, left_if}
@@ -41,6 +40,7 @@ use Rattle.evaluation.specs.code.Showing.{shows, Beside, Shows}
 use Rattle.evaluation.specs.Demand3.{Ran}
 use Rattle.evaluation.specs.StoredAfter.{Left}
 use Rattle.evaluation.proofs.SoundLaws.{list_short}
+use Rattle.std.proofs.lemmas.Option.{none-some, same_Some}
 
 -- ------------------------------------------------------------------ the replies of a book's answers
 
@@ -72,7 +72,7 @@ module _ (b : Book) (κ : Kept b) where
   waits_first h = let (n, e) = first_name b.message κ.sound.author in (n, ap (standing (walks b)) (κ.fresh h) ∙ e)
 
   -- and none is asked
-  none_asked : b.handed_out ≡ false → b.run.asked ≡ nothing
+  none_asked : b.handed_out ≡ false → b.run.asked ≡ None
   unfolding begun
   none_asked h = ap (λ (s : Asking Answer). s.asked) (κ.fresh h)
 
@@ -81,8 +81,8 @@ module _ (b : Book) (κ : Kept b) where
 
   pointed : (o : Option Cursor) → Beside b o → KeptCursor (replies b.run.taken) b.message (here o)
   unfolding Beside here point
-  pointed nothing h = (cursor_claims (replies b.run.taken) b.message).begins
-  pointed (just c) h = h.1
+  pointed None h = (cursor_claims (replies b.run.taken) b.message).begins
+  pointed (Some c) h = h.1
 
   stands_here : (o : Option Cursor) → Beside b o → standing (walks b) b.run ≡ stands b.message (here o)
   stands_here o h = standing_read ∙ (cursor_claims (replies b.run.taken) b.message).right (here o) (pointed o h)
@@ -100,7 +100,7 @@ module _ (b : Book) (κ : Kept b) where
       length_replies b.run.taken ∙ ap length (claims.answered v e some_answers all) ∙ sym (claims.counted v e some_answers all)
 
   -- while a name is asked, there is room for its answer
-  room_shown : (o : Option Cursor) (n : Name) → b.run.asked ≡ just n → has_room (shows b o) ≡ true
+  room_shown : (o : Option Cursor) (n : Name) → b.run.asked ≡ Some n → has_room (shows b o) ≡ true
   unfolding has_room shows walks some_answers
   room_shown o n e = lt-ltb (length (replies b.run.taken)) _ (omega (
     arith,
@@ -110,28 +110,28 @@ module _ (b : Book) (κ : Kept b) where
   ))
 
   -- an answer is kept for the name now asked
-  keep_simulates : (n : Name) (a : Answer) (after : Octets) → b.run.asked ≡ just n → (o : Option Cursor) → Beside b o
+  keep_simulates : (n : Name) (a : Answer) (after : Octets) → b.run.asked ≡ Some n → (o : Option Cursor) → Beside b o
       → Same (keeping (shows b o) n (reply a), given accepted after) (answered b (kept b.run n a, given accepted after))
   unfolding Same Beside shows keeping moved kept answered
-  keep_simulates n a after e nothing h = absurd (none-ne-some n (sym (none_asked h) ∙ e))
-  keep_simulates n a after e (just c) h =
+  keep_simulates n a after e None h = absurd (none-some n (sym (none_asked h) ∙ e))
+  keep_simulates n a after e (Some c) h =
       let more : replies b.run.taken ++ ((n, reply a) ∷ []) ≡ replies (kept b.run n a).taken = sym (replies_kept b.run n a) in (
-        just (answered_on (replies (kept b.run n a).taken) b.message c (reply a)),
+        Some (answered_on (replies (kept b.run n a).taken) b.message c (reply a)),
         (
-          ap (λ β. (record { message = just b.message; replies = β; asked = nothing; at = just (answered_on β b.message c (reply a)) }, given accepted after)) more,
+          ap (λ β. (record { message = Some b.message; replies = β; asked = None; at = Some (answered_on β b.message c (reply a)) }, given accepted after)) more,
           (
             h.0,
             subst (λ β. KeptCursor β b.message (answered_on β b.message c (reply a))) more ((cursor_claims (replies b.run.taken) b.message).answers c h.1 n (h.2 n e) (reply a)),
-            λ x f. absurd (none-ne-some x f),
+            λ x f. absurd (none-some x f),
           ),
         ),
       )
 
   -- what is kept judges as the book stands
-  judged_shown : (o : Option Cursor) → Beside b o → judged_at (just b.message) o ≡ judged_by b.message (standing (walks b) b.run)
+  judged_shown : (o : Option Cursor) → Beside b o → judged_at (Some b.message) o ≡ judged_by b.message (standing (walks b) b.run)
   unfolding Beside judged_at judged_by here point
-  judged_shown nothing h = let (n, e) = waits_first h in sym (ap (judged_by b.message) e)
-  judged_shown (just c) h = ap (judged_by b.message) (sym (stands_here (just c) h))
+  judged_shown None h = let (n, e) = waits_first h in sym (ap (judged_by b.message) e)
+  judged_shown (Some c) h = ap (judged_by b.message) (sym (stands_here (Some c) h))
 
   result_shown : (u : Standing Verdict) → standing (walks b) b.run ≡ u → given (result_back (length (replies b.run.taken)) (judged_by b.message u)) [] ≡ result_by b.run u
   unfolding result_back judged_by result_by
@@ -144,10 +144,10 @@ module _ (b : Book) (κ : Kept b) where
   field_shown output (needs n) = refl
   field_shown output (has v) = refl
 
-  added_simulates : b.handed_out ≡ false → (x : OrRefused Message) → Same (add_by (shows b nothing) x) (book_add_by b x)
+  added_simulates : b.handed_out ≡ false → (x : OrRefused Message) → Same (add_by (shows b None) x) (book_add_by b x)
   unfolding Same Beside shows add_by book_add_by keeps_opened begun replies
-  added_simulates h (ok m) = (nothing, (ap (λ (s : Asking Answer). (record { message = just m; replies = replies s.taken; asked = s.asked; at = nothing }, given accepted [])) (sym (κ.fresh h)), h))
-  added_simulates h (not_ok f) = (nothing, (refl, h))
+  added_simulates h (ok m) = (None, (ap (λ (s : Asking Answer). (record { message = Some m; replies = replies s.taken; asked = s.asked; at = None }, given accepted [])) (sym (κ.fresh h)), h))
+  added_simulates h (not_ok f) = (None, (refl, h))
 
   added_by : (g : GivenIdentifier) (t : Bool) → b.handed_out ≡ t → added b g ≡ (if t then not_ok (refusal 17 0) else adding b.message g)
   unfolding added refuse_if ◌>>=◌
@@ -155,41 +155,41 @@ module _ (b : Book) (κ : Kept b) where
   added_by g false h = ap (λ t. refuse_if t (refusal 17 0) >>= λ _. adding b.message g) h
 
   -- an identifier, in time or too late
-  add_simulates : (g : GivenIdentifier) (o : Option Cursor) → Beside b o → Same (add_at (shows b o) (just b.message) o g) (book_add_by b (added b g))
+  add_simulates : (g : GivenIdentifier) (o : Option Cursor) → Beside b o → Same (add_at (shows b o) (Some b.message) o g) (book_add_by b (added b g))
   unfolding Beside add_at
-  add_simulates g nothing h = subst (λ x. Same (add_by (shows b nothing) (adding b.message g)) (book_add_by b x)) (sym (added_by g false h)) (added_simulates h (adding b.message g))
-  add_simulates g (just c) h =
-      subst (λ x. Same (shows b (just c), given (refused (refusal 17 0)) []) (book_add_by b x)) (sym (added_by g true h.0)) (unfold Same Beside book_add_by in (just c, (refl, h)))
+  add_simulates g None h = subst (λ x. Same (add_by (shows b None) (adding b.message g)) (book_add_by b x)) (sym (added_by g false h)) (added_simulates h (adding b.message g))
+  add_simulates g (Some c) h =
+      subst (λ x. Same (shows b (Some c), given (refused (refusal 17 0)) []) (book_add_by b x)) (sym (added_by g true h.0)) (unfold Same Beside book_add_by in (Some c, (refl, h)))
 
   -- the verdict is not handed out first
   verdict_beside : (v : Verdict) → standing (walks b) b.run ≡ has v → (o : Option Cursor) → Beside b o → Beside (stepped b (b.run, given (verdict v (count b.run)) [])).0 o
   unfolding Beside stepped hands_out
-  verdict_beside v e nothing h = let (n, f) = waits_first h in absurd (has≢needs (sym e ∙ f))
-  verdict_beside v e (just c) h = (or-true b.handed_out, h.1, h.2)
+  verdict_beside v e None h = let (n, f) = waits_first h in absurd (has≢needs (sym e ∙ f))
+  verdict_beside v e (Some c) h = (or-true b.handed_out, h.1, h.2)
 
   module _ (o : Option Cursor) (h : Beside b o) where
     next_simulates : (u : Standing Verdict) → standing (walks b) b.run ≡ u → u ≡ stands b.message (here o)
         → Same (next_by (shows b o) (here o) u) (stepped b (book_next_by b.run u))
     unfolding Same Beside shows next_by book_next_by now_asking with_asked stepped hands_out
-    next_simulates (needs n) e f = (just (here o), (refl, (or-true b.handed_out, pointed o h, λ x g. sym f ∙ ap needs (some-injective n x g))))
+    next_simulates (needs n) e f = (Some (here o), (refl, (or-true b.handed_out, pointed o h, λ x g. sym f ∙ ap needs (same_Some n x g))))
     next_simulates (has v) e f = (o, (ap (λ i. (shows b o, given (verdict v i) [])) (count_shown v e), verdict_beside v e o h))
 
-    taken_simulates : (n : Name) (a : Answer) (scratch : Octets) → b.run.asked ≡ just n
+    taken_simulates : (n : Name) (a : Answer) (scratch : Octets) → b.run.asked ≡ Some n
         → Same (answer_taken (shows b o) n (left_after a scratch) (taken a scratch)) (answered b (take_texts b.run n a scratch (texts a)))
     unfolding answer_taken left_after taken take_texts answered Same
     taken_simulates n a scratch e = go (texts a) refl (leb 4096 (length scratch)) refl
       where
         go : (x : Option (List Octets)) → texts a ≡ x → (t : Bool) → leb 4096 (length scratch) ≡ t
             → Same (answer_taken (shows b o) n (left_after a scratch) (taken a scratch)) (answered b (take_texts b.run n a scratch (texts a)))
-        go nothing f t g = rw (f, left_after, taken) (o, (refl, h))
-        go (just ts) f true g = rw (f, left_after, taken, g) (keep_simulates n a (scratch_after ts scratch) e o h)
-        go (just ts) f false g = rw (f, left_after, taken, g) (o, (refl, h))
+        go None f t g = rw (f, left_after, taken) (o, (refl, h))
+        go (Some ts) f true g = rw (f, left_after, taken, g) (keep_simulates n a (scratch_after ts scratch) e o h)
+        go (Some ts) f false g = rw (f, left_after, taken, g) (o, (refl, h))
 
     answer_simulates : (name : Octets) (a : Answer) (scratch : Octets) (x : Option Name) → b.run.asked ≡ x
         → Same (answer_at (shows b o) name a scratch x) (answered b (take_asked b.run name a a scratch x))
     unfolding answer_at take_asked
-    answer_simulates name a scratch nothing e = unfold Same answered in (o, (refl, h))
-    answer_simulates name a scratch (just n) e =
+    answer_simulates name a scratch None e = unfold Same answered in (o, (refl, h))
+    answer_simulates name a scratch (Some n) e =
         rw (room_shown o n e, and-true)
         (elim (same_text (without_dot name) n) as (λ t. Same (if t then answer_taken (shows b o) n (left_after a scratch) (taken a scratch) else (shows b o, given (refused (refusal 5 0)) scratch))
         (answered b (if t then take_texts b.run n a scratch (texts a) else (b.run, given (refused (refusal 5 0)) scratch)))) [
@@ -253,7 +253,7 @@ left_shows b κ w (Left.call {c = c} d l) = left_shows (book_call b c).0 (kept_c
 -- an opening's evaluation shows the book that it opens
 pub opened_shows : {e : Evaluation} (m : Message) → view e ≡ keeps_opened m → Shows e (opened m)
 unfolding shows Beside keeps_opened opened begun replies
-opened_shows m v = record { stands_at = nothing; keeps = v; beside = refl }
+opened_shows m v = record { stands_at = None; keeps = v; beside = refl }
 
 module _ (m : Message) (o : Opened m) where
   pub as_the_book : {e : Evaluation} → view e ≡ keeps_opened m → {cs : List Call} {gs : List (Given Verdict)} → Ran e cs gs → gs ≡ transcript book_call (opened m) cs

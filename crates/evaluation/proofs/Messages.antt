@@ -1,7 +1,7 @@
 -- The message that an evaluation has stored is the book's.
+use Rattle.std.specs.Prelude.{Some}
 use mathlib.Core.Path.{◌≡◌, ap, ◌∙◌}
 use mathlib.Core.Bool.{Bool, true, false}
-use mathlib.Core.Option.{some as just}
 use Rattle.verdict.specs.Message.{Message}
 use Rattle.evaluation.specs.declared.Evaluation.{Evaluation}
 use Rattle.evaluation.specs.GivenBack.{message_now}
@@ -12,7 +12,7 @@ use Rattle.evaluation.specs.code.View.{handed_view, view_by, view}
 use Rattle.evaluation.specs.code.Showing.{shows}
 use Rattle.evaluation.proofs.MachineLaws.{left_as_the_book}
 
-kept_message : (e : Evaluation) (started handed : Bool) (m : Message) → (view_by e started handed).message ≡ just m → message_now e ≡ m
+kept_message : (e : Evaluation) (started handed : Bool) (m : Message) → (view_by e started handed).message ≡ Some m → message_now e ≡ m
 unfolding view_by keeps_nothing keeps_opened handed_view
 kept_message e false handed m h = cc h
 kept_message e true false m h = cc h

@@ -1,16 +1,14 @@
 -- How many names can be asked: a message has at most 16 identifiers, so that 136 do.
 use mathlib.Core.List.{List, [], ◌∷◌}
 use mathlib.Core.Bool.{true, false}
-use mathlib.Core.Option.{Option, none as nothing, some as just}
 use Prim.Native.Nat.{suc, ◌≤◌}
 use native.Mathlib.Omega.{arith}
 use lib.ListN.{length}
-use Rattle.std.specs.Prelude.{if◌then◌else◌}
+use Rattle.std.specs.Prelude.{if◌then◌else◌, Some, None, Option}
 use Rattle.lookup.specs.Lookup.{Name, list}
 use Rattle.lookup.proofs.BoundLaws.{all_in_self, once_at_most}
 use Rattle.domain.specs.Domain.{Domain}
 use Rattle.policy.specs.declared.Settings.{Settings}
-use Rattle.force.specs.declared.InForce.{InForce}
 use Rattle.txt.specs.declared.Reply.{Reply}
 use Rattle.txt.specs.Answers.{Answer, lookup_error, reply}
 use Rattle.asking.specs.Asking.{asked_names, count}
@@ -35,11 +33,11 @@ walked_few s author (i ∷ is) =
       | false ↦ omega (arith, walked_few s author is)
     ]
 
-walked_by_few : (m : Message) (o : Option Domain) (f : InForce) → length (walked_by m o f) ≤ length m.identifiers
+walked_by_few : (m : Message) (o : Option Domain) (f : Option Settings) → length (walked_by m o f) ≤ length m.identifiers
 unfolding walked_by
-walked_by_few m o InForce.NotUsable = omega arith
-walked_by_few m nothing (InForce.Usable s) = omega arith
-walked_by_few m (just o) (InForce.Usable s) =
+walked_by_few m o None = omega arith
+walked_by_few m None (Some s) = omega arith
+walked_by_few m (Some o) (Some s) =
     omega (arith, once_at_most _ [] _ (all_in_self (must_walk_domains s m.author m.identifiers)), walked_few s m.author m.identifiers)
 
 -- no more domains than identifiers

@@ -1,8 +1,8 @@
 -- What an evaluation's calls store is what is worked out afresh.
+use Rattle.std.specs.Prelude.{Option, None, Some}
 use mathlib.Core.Path.{◌≡◌, ap, sym, ◌∙◌}
 use mathlib.Core.List.{List, []}
 use mathlib.Core.Bool.{true, false}
-use mathlib.Core.Option.{Option, none as nothing, some as just}
 use Prim.Native.Nat.{ℕ}
 use lib.ListN.{get_or}
 use Rattle.domain.specs.Domain.{is_domain}
@@ -42,8 +42,8 @@ none_taken b κ h = ap (λ (s : Asking Answer). replies s.taken) (κ.fresh h)
 -- and those, beside a book, are the ones worked out afresh
 kept_stored : (b : Book) → Kept b → (o : Option Cursor) → Beside b o → (walk : ℕ) → get_or (numbers_kept o) walk 0 ≡ get_or (numbers_stored (replies b.run.taken) b.message) walk 0
 unfolding Beside numbers_kept
-kept_stored b κ nothing h walk = sym (ap (λ l. get_or l walk 0) (ap (λ β. numbers_stored β b.message) (none_taken b κ h) ∙ none_stored b.message κ.sound.author))
-kept_stored b κ (just c) h walk = h.1.numbers walk
+kept_stored b κ None h walk = sym (ap (λ l. get_or l walk 0) (ap (λ β. numbers_stored β b.message) (none_taken b κ h) ∙ none_stored b.message κ.sound.author))
+kept_stored b κ (Some c) h walk = h.1.numbers walk
 
 pub runs_store : RunsStore
 unfolding RunsStore Changes opened_view shows Numbered

@@ -1,6 +1,6 @@
 -- What the calls give back, read: a name and a verdict by the numbers that mark them in an evaluation. "Where an answer is an enum, a definition gives
 -- this paper's number and values for each of its cases. The promises use that definition".
-use Rattle.std.specs.Prelude.{ℕ, drop}
+use Rattle.std.specs.Prelude.{ℕ, drop, Result, Ok, Err}
 use Rattle.lookup.specs.Lookup.{Name}
 use Rattle.domain.specs.declared.Octet.{Octet}
 use Rattle.domain.specs.Domain.{asked_name}
@@ -12,8 +12,8 @@ use Rattle.verdict_judgement.specs.Reading.{verdict_in}
 use Rattle.verdict_judgement.specs.code.Judging.{stored_message}
 use Rattle.evaluation.specs.declared.Evaluation.{Evaluation}
 use Rattle.evaluation.specs.declared.Step.{Step}
-use Rattle.evaluation.specs.declared.Resulting.{Resulting}
-use Rattle.evaluation.specs.declared.Acceptance.{Acceptance}
+use Rattle.octets.specs.declared.Refusal.{Refusal}
+use Rattle.evaluation.specs.declared.Verdict.{Verdict as Counted}
 
 -- the message that an evaluation has stored
 unfoldable pub message_now : Evaluation → Message
@@ -30,11 +30,11 @@ step_back e (Step.Verdict v) = verdict (verdict_in (message_now e) v.judgement) 
 step_back e (Step.Refused f) = refused f
 
 -- "Result: 7 while a name lacks an answer, else the verdict"
-unfoldable pub resulting_back : Evaluation → Resulting → Back Verdict
-resulting_back e (Resulting.Verdict v) = verdict (verdict_in (message_now e) v.judgement) v.count
-resulting_back e (Resulting.Refused f) = refused f
+unfoldable pub resulting_back : Evaluation → Result Counted Refusal → Back Verdict
+resulting_back e (Ok v) = verdict (verdict_in (message_now e) v.judgement) v.count
+resulting_back e (Err f) = refused f
 
 -- an adding, or an answer
-unfoldable pub acceptance_back : Acceptance → Back Verdict
-acceptance_back Acceptance.Accepted = accepted
-acceptance_back (Acceptance.Refused f) = refused f
+unfoldable pub acceptance_back : Result Unit Refusal → Back Verdict
+acceptance_back (Ok tt) = accepted
+acceptance_back (Err f) = refused f

@@ -44,23 +44,9 @@ pub struct Stepped {
     pub step: Step,
 }
 
-// What a result is: the verdict, or a refusal.
-#[derive(Clone, Copy)]
-pub enum Resulting {
-    Verdict(Verdict),
-    Refused(Refusal),
-}
-
-// Whether a call was accepted.
-#[derive(Clone, Copy)]
-pub enum Acceptance {
-    Accepted,
-    Refused(Refusal),
-}
-
 // What an opening, an adding or an answer gives: the evaluation goes on from here.
 #[derive(Clone, Copy)]
 pub struct Changed {
     pub evaluation: Evaluation,
-    pub acceptance: Acceptance,
+    pub acceptance: Result<(), Refusal>,
 }

@@ -33,6 +33,7 @@ pub fn accept(e: Evaluation, walk: usize, place: Octet, r: Reply) -> Evaluation
         r,
         &mut stored,
     );
+    // Field by field: `..e` was tried, and a sheet's run then needs 20 KiB more of stack, past what the header says.
     let mut after = e;
     after.asked = false;
     after.kept = kept;

@@ -13,21 +13,20 @@ ghost use Rattle.evaluation.specs.GivenBack.{acceptance_back};
 ghost use Rattle.evaluation_open.specs.code.Opening.{Holds, Opens};
 
 use alignment::Kind;
-use evaluation::{Acceptance, Changed, Evaluation};
+use evaluation::{Changed, Evaluation};
 use verdict_judgement::Terms;
+
+// The most identifiers that one message has.
+const MOST_IDENTIFIERS: usize = 16;
 
 // Whether one of so many identifiers is SPF's.
 fn has_spf(numbers: &[u16], count: usize) -> bool
     ensures { (domains : Octets) → result ≡ any (λ x. is_spf x.kind) (stored_identifiers domains numbers.now 1 (min count 16)) }
 {
-    let mut more = text_parts::smaller(count, 16);
-    let mut walk = 1;
-    while 0 < more {
+    for walk in 1..count.min(MOST_IDENTIFIERS) + 1 {
         if let Kind::Spf = alignment_stored::kind_at(numbers, walk) {
             return true;
         }
-        walk = walk + 1;
-        more = more - 1;
     }
     false
 }
@@ -38,46 +37,37 @@ fn store(e: Evaluation, kind: u8, outcome: u8, d: &[u8]) -> Evaluation
     requires d_len_bound { length d.now ≤ 253 }
     ensures { ((m : Message) → Holds e m → Holds result (with_identifier m (record { kind = kind_in kind; outcome = outcome_in outcome; domain = lower d.now }))) × (result.stored ≡ e.stored) }
 {
-    let given = e.terms;
-    let existence = given.existence;
-    let walk = given.identifiers + 1;
-    let terms = Terms {
-        existence,
-        support: given.support,
-        identifiers: walk,
-    };
+    let walk = e.terms.identifiers + 1;
     let mut domains = e.domains;
     octets_append::append_lower(d, 253 * walk, &mut domains);
     let mut numbers = e.numbers;
     numbers[walk] = d.len() as u16;
     numbers[17 + walk] = kind as u16;
     numbers[34 + walk] = outcome as u16;
-    let mut after = e;
-    after.domains = domains;
-    after.numbers = numbers;
-    after.terms = terms;
-    after
+    Evaluation {
+        domains,
+        numbers,
+        terms: Terms {
+            identifiers: walk,
+            ..e.terms
+        },
+        ..e
+    }
 }
 
 // Adds an identifier to an evaluation that holds a message and nothing more.
 fn add_to(e: Evaluation, kind: u8, outcome: u8, domain: &[u8]) -> Changed
     ensures { (m : Message) → Holds e m → Opens e e.stored (adding m (record { kind = kind; outcome = outcome; domain = domain.now })) result }
 {
-    let terms = e.terms;
-    let index = text_parts::smaller(terms.identifiers, 16);
-    if 1 < kind {
+    let index = e.terms.identifiers.min(MOST_IDENTIFIERS);
+    if 1 < kind || 2 < outcome {
         return evaluation_state::refused(e, 3, index);
     }
-    if 2 < outcome {
-        return evaluation_state::refused(e, 3, index);
-    }
-    if 16 <= index {
+    if MOST_IDENTIFIERS <= index {
         return evaluation_state::refused(e, 4, index);
     }
-    if kind == 0 {
-        if has_spf(&e.numbers, index) {
-            return evaluation_state::refused(e, 4, index);
-        }
+    if kind == 0 && has_spf(&e.numbers, index) {
+        return evaluation_state::refused(e, 4, index);
     }
     let d = domain_taken::without_dot(domain);
     if !domain_rule::is_domain(d) {
@@ -85,7 +75,7 @@ fn add_to(e: Evaluation, kind: u8, outcome: u8, domain: &[u8]) -> Changed
     }
     Changed {
         evaluation: store(e, kind, outcome, d),
-        acceptance: Acceptance::Accepted,
+        acceptance: Ok(()),
     }
 }
 
@@ -93,10 +83,7 @@ fn add_to(e: Evaluation, kind: u8, outcome: u8, domain: &[u8]) -> Changed
 pub fn add(e: Evaluation, kind: u8, outcome: u8, domain: &[u8]) -> Changed
     ensures { Does e (add (record { kind = kind; outcome = outcome; domain = domain.now })) result.evaluation (given (acceptance_back result.acceptance) []) }
 {
-    if !e.started {
-        return evaluation_state::refused(e, 17, 0);
-    }
-    if e.handed {
+    if !e.started || e.handed {
         return evaluation_state::refused(e, 17, 0);
     }
     add_to(e, kind, outcome, domain)

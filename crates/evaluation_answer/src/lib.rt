@@ -6,9 +6,8 @@ ghost use Rattle.book.specs.Book.{answer};
 ghost use Rattle.evaluation.specs.Promises.{Does};
 ghost use Rattle.evaluation.specs.GivenBack.{acceptance_back};
 
-use evaluation::{Acceptance, Changed, Evaluation};
-use txt::{Status, Taken};
-use verdict_ahead::Waiting;
+use evaluation::{Changed, Evaluation};
+use txt::Status;
 
 // An answer for the name now asked.
 pub fn answer(
@@ -21,15 +20,13 @@ pub fn answer(
     ensures { Does e (answer name.now status bytes.now scratch.old) result.evaluation (given (acceptance_back result.acceptance) scratch.new) }
 {
     let live = evaluation_keep::is_live(e.started, e.handed, e.asked, e.count);
-    let terms = e.terms;
-    let position = e.position;
-    match evaluation_keep::find_asked(&e.domains, &e.numbers, terms, position, live, name) {
-        Waiting::Nothing => evaluation_state::refused(e, 5, 0),
-        Waiting::For { walk, place } => match txt_take::take_answer(status, bytes, scratch) {
-            Taken::Refused(f) => evaluation_state::refused(e, f.number, f.place),
-            Taken::Reply(r) => Changed {
-                evaluation: evaluation_accept::accept(e, walk, place, r),
-                acceptance: Acceptance::Accepted,
+    match evaluation_keep::find_asked(&e.domains, &e.numbers, e.terms, e.position, live, name) {
+        None => evaluation_state::refused(e, 5, 0),
+        Some(asked) => match txt_take::take_answer(status, bytes, scratch) {
+            Err(f) => evaluation_state::refused(e, f.number, f.place),
+            Ok(r) => Changed {
+                evaluation: evaluation_accept::accept(e, asked.walk, asked.place, r),
+                acceptance: Ok(()),
             },
         },
     }

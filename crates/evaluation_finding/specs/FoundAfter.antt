@@ -1,7 +1,8 @@
 -- What a finding gives after every list of calls (document 02, Ask 1: "each day's verdicts").
-use Rattle.std.specs.Prelude.{◌≡◌, List, ℕ}
+use Rattle.std.specs.Prelude.{◌≡◌, List, ℕ, Result}
 use Rattle.octets.specs.Octets.{Octets}
 use Rattle.octets.specs.Refusing.{OrRefused, ok, not_ok, refusal}
+use Rattle.octets.specs.declared.Refusal.{Refusal}
 use Rattle.lookup.specs.Lookup.{Standing, needs, has}
 use Rattle.domain.specs.Domain.{Domain}
 use Rattle.verdict.specs.Message.{Message}
@@ -32,4 +33,4 @@ FindsTheBook =
     (author : Octets) (existence support : ℕ) (before : Evaluation) (r : Changed) → Changes before (opened_view (opening author existence support)) r
     → (m : Message) → opening author existence support ≡ ok m
     → (cs : List Call) (e : Evaluation) → Left r.evaluation cs e
-    → (f : Found) → Finds e f → found_in (message_now e) f ≡ finding_by (book_after m cs).message (standing (walks (book_after m cs)) (book_after m cs).run)
+    → (f : Result Found Refusal) → Finds e f → found_in (message_now e) f ≡ finding_by (book_after m cs).message (standing (walks (book_after m cs)) (book_after m cs).run)

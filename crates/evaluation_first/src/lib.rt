@@ -14,9 +14,8 @@ pub fn point(e: Evaluation) -> Evaluation
     if e.handed {
         return after;
     }
-    let terms = e.terms;
     let mut stored = e.stored;
-    let position = verdict_advance::begin(&e.domains, &e.numbers, &e.kept, 0, terms, &mut stored);
+    let position = verdict_advance::begin(&e.domains, &e.numbers, &e.kept, 0, e.terms, &mut stored);
     after.handed = true;
     after.count = 0;
     after.stored = stored;

@@ -5,10 +5,10 @@ ghost use Rattle.std.specs.Prelude.{◌≡◌};
 ghost use Rattle.evaluation_numbers.specs.Numbers.{policy_number, verdict_numbers, accepted_numbers, ask_numbers, judged_numbers, refused_numbers, acceptance_numbers, step_numbers, resulting_numbers, field_numbers, found_numbers};
 
 use domain::Octet;
-use evaluation::{Acceptance, Resulting, Step, Verdict};
+use evaluation::{Step, Verdict};
 use evaluation_finding::Found;
 use evaluation_numbers::{FoundNumbers, GivenNumbers, VerdictNumbers};
-use octets::{Refusal, Written};
+use octets::Refusal;
 use rows::Finding;
 use verdict::AppliedPolicy;
 
@@ -26,17 +26,13 @@ fn number_applied(p: AppliedPolicy) -> u8
 fn number_verdict(v: Verdict) -> VerdictNumbers
     ensures { result ≡ verdict_numbers v }
 {
-    let judgement = v.judgement;
-    let result = judgement.result;
-    let policy = judgement.policy;
-    let disposition = judgement.disposition;
-    let begin = judgement.begin;
+    let j = v.judgement;
     VerdictNumbers {
-        result: verdict_numbers::number_result(result),
-        policy: number_applied(policy),
-        disposition: verdict_numbers::number_disposition(disposition),
-        begin,
-        alignments: judgement.alignments,
+        result: verdict_numbers::number_result(j.result),
+        policy: number_applied(j.policy),
+        disposition: verdict_numbers::number_disposition(j.disposition),
+        begin: j.begin,
+        alignments: j.alignments,
         count: v.count,
     }
 }
@@ -69,47 +65,47 @@ fn blank(kind: u8) -> GivenNumbers
 fn accept(length: usize) -> GivenNumbers
     ensures { result ≡ accepted_numbers length }
 {
-    let mut given = blank(0);
-    given.length = length;
-    given
+    GivenNumbers { length, ..blank(0) }
 }
 
 // A name to ask.
 fn ask(walk: usize, place: Octet) -> GivenNumbers
     ensures { result ≡ ask_numbers walk place }
 {
-    let mut given = blank(1);
-    given.walk = walk;
-    given.place = place;
-    given
+    GivenNumbers {
+        walk,
+        place,
+        ..blank(1)
+    }
 }
 
 // A verdict given.
 fn judge(v: Verdict) -> GivenNumbers
     ensures { result ≡ judged_numbers v }
 {
-    let mut given = blank(2);
-    let verdict = number_verdict(v);
-    given.verdict = verdict;
-    given
+    GivenNumbers {
+        verdict: number_verdict(v),
+        ..blank(2)
+    }
 }
 
 // A refusal.
 fn refuse(f: Refusal) -> GivenNumbers
     ensures { result ≡ refused_numbers f }
 {
-    let mut given = blank(3);
-    given.refusal = f;
-    given
+    GivenNumbers {
+        refusal: f,
+        ..blank(3)
+    }
 }
 
 // What an opening, an adding or an answer gives.
-pub fn number_acceptance(a: Acceptance) -> GivenNumbers
+pub fn number_acceptance(a: Result<(), Refusal>) -> GivenNumbers
     ensures { result ≡ acceptance_numbers a }
 {
     match a {
-        Acceptance::Accepted => accept(0),
-        Acceptance::Refused(f) => refuse(f),
+        Ok(()) => accept(0),
+        Err(f) => refuse(f),
     }
 }
 
@@ -125,31 +121,31 @@ pub fn number_step(s: Step) -> GivenNumbers
 }
 
 // What the result gives.
-pub fn number_resulting(x: Resulting) -> GivenNumbers
+pub fn number_resulting(x: Result<Verdict, Refusal>) -> GivenNumbers
     ensures { result ≡ resulting_numbers x }
 {
     match x {
-        Resulting::Verdict(v) => judge(v),
-        Resulting::Refused(f) => refuse(f),
+        Ok(v) => judge(v),
+        Err(due) => refuse(due),
     }
 }
 
 // What the field gives.
-pub fn number_field(w: Written) -> GivenNumbers
+pub fn number_field(w: Result<usize, Refusal>) -> GivenNumbers
     ensures { result ≡ field_numbers w }
 {
     match w {
-        Written::Wrote(n) => accept(n),
-        Written::Refused(f) => refuse(f),
+        Ok(n) => accept(n),
+        Err(f) => refuse(f),
     }
 }
 
 // What is entered in a day's rows.
-pub fn number_found(x: Found) -> FoundNumbers
+pub fn number_found(x: Result<Found, Refusal>) -> FoundNumbers
     ensures { result ≡ found_numbers x }
 {
     match x {
-        Found::Verdict { finding, begin } => FoundNumbers {
+        Ok(Found { finding, begin }) => FoundNumbers {
             kind: 2,
             finding,
             begin,
@@ -158,7 +154,7 @@ pub fn number_found(x: Found) -> FoundNumbers
                 place: 0,
             },
         },
-        Found::Refused(refusal) => FoundNumbers {
+        Err(refusal) => FoundNumbers {
             kind: 3,
             finding: Finding {
                 result: 0,

@@ -2,14 +2,13 @@
 use mathlib.Core.Path.{◌≡◌, refl, ap, sym, ◌∙◌}
 use mathlib.Core.List.{List, [], ◌∷◌, ◌++◌}
 use mathlib.Core.Bool.{Bool, true, false, ◌&&◌, and-false, false≢true}
-use mathlib.Core.Option.{Option, none as nothing, some as just}
 use Prim.Native.Nat.{ℕ, ◌+◌, ◌≤◌, ◌<◌, min}
 use native.Mathlib.Omega.{arith}
 use native.Mathlib.Decide.{dec_le}
 use lib.Dec.{ltb}
 use lib.ListN.{length, drop}
 use borrow.Author.Tests.{ltb-true, lt-ltb, le-ltb}
-use Rattle.std.specs.Prelude.{if◌then◌else◌}
+use Rattle.std.specs.Prelude.{Result, Ok, Err, Option, None, Some}
 use Rattle.octets.specs.Octets.{Octets, same_text}
 use Rattle.octets.specs.Refusing.{refusal}
 use Rattle.octets.specs.declared.Refusal.{Refusal}
@@ -18,7 +17,6 @@ use Rattle.domain.specs.declared.Octet.{Octet}
 use Rattle.domain.specs.Domain.{without_dot, asked_name}
 use Rattle.txt.specs.declared.Status.{Status}
 use Rattle.txt.specs.declared.Reply.{Reply}
-use Rattle.txt.specs.declared.Taken.{Taken}
 use Rattle.txt.specs.Answers.{Answer, answer_of}
 use Rattle.txt.specs.Taking.{taken, left_after, Takes}
 use Rattle.walk_known.specs.code.Kept.{kept_answers}
@@ -30,7 +28,6 @@ use Rattle.verdict_cursor.specs.code.Positions.{place_in}
 use Rattle.asking.specs.Asking.{given, refused}
 use Rattle.book.specs.Book.{answer}
 use Rattle.evaluation.specs.declared.Evaluation.{Evaluation}
-use Rattle.evaluation.specs.declared.Acceptance.{Acceptance}
 use Rattle.evaluation.specs.code.Machine.{Keeps, keeps_nothing, keeps_opened, moved, keeping, answer_taken, has_room, answer_at, machine_call}
 use Rattle.evaluation.specs.code.View.{replies_now, cursor_now, asked_now, handed_view, view_by, view, numbers_kept, Numbered}
 use Rattle.evaluation.specs.Promises.{changing, Does}
@@ -39,41 +36,41 @@ use Rattle.evaluation.proofs.CallLaws.{replies_length}
 use Rattle.evaluation_keep.specs.code.Asking.{answered}
 use Rattle.evaluation_keep.specs.code.Accepting.{NumberedNow, Accepts}
 
-just≢nothing : {n : Name} → just n ≡ nothing → ⊥
-just≢nothing e = false≢true (ap (λ (o : Option Name). elim o as (λ _. Bool) [ nothing ↦ true | just n ↦ false ]) e)
+just≢nothing : {n : Name} → Some n ≡ None → ⊥
+just≢nothing e = false≢true (ap (λ (o : Option Name). elim o as (λ _. Bool) [ None ↦ true | Some n ↦ false ]) e)
 
 -- ------------------------------------------------------------------ what an answer is for
 
 module _ (name : Octets) where
-  answered_none : (b : Bool) → answered b name nothing ≡ nothing
+  answered_none : (b : Bool) → answered b name None ≡ None
   unfolding answered
   answered_none true = refl
   answered_none false = refl
 
-  answered_live : (b : Bool) (o : Option Name) {n : Name} → answered b name o ≡ just n → b ≡ true
+  answered_live : (b : Bool) (o : Option Name) {n : Name} → answered b name o ≡ Some n → b ≡ true
   unfolding answered
   answered_live true o h = refl
   answered_live false o h = absurd (just≢nothing (sym h))
 
   module _ (k : Keeps) (a : Answer) (scratch : Octets) where
     -- for no name: refused
-    refused_by : (o : Option Name) → answered (has_room k) name o ≡ nothing → answer_at k name a scratch o ≡ (k, given (refused (refusal 5 0)) scratch)
+    refused_by : (o : Option Name) → answered (has_room k) name o ≡ None → answer_at k name a scratch o ≡ (k, given (refused (refusal 5 0)) scratch)
     unfolding answer_at answered
-    refused_by nothing h = refl
-    refused_by (just n) h = go (has_room k) (same_text (without_dot name) n) refl refl h
+    refused_by None h = refl
+    refused_by (Some n) h = go (has_room k) (same_text (without_dot name) n) refl refl h
       where
-        go : (b t : Bool) → has_room k ≡ b → same_text (without_dot name) n ≡ t → answered b name (just n) ≡ nothing → answer_at k name a scratch (just n) ≡ (k, given (refused (refusal 5 0)) scratch)
+        go : (b t : Bool) → has_room k ≡ b → same_text (without_dot name) n ≡ t → answered b name (Some n) ≡ None → answer_at k name a scratch (Some n) ≡ (k, given (refused (refusal 5 0)) scratch)
         go false t e f g = rw (e, and-false (same_text (without_dot name) n))
         go true false e f g = rw f
         go true true e f g = absurd (just≢nothing (rw f at g))
 
     -- for the name now asked: taken
-    taken_by : (o : Option Name) (n : Name) → answered (has_room k) name o ≡ just n → answer_at k name a scratch o ≡ answer_taken k n (left_after a scratch) (taken a scratch)
+    taken_by : (o : Option Name) (n : Name) → answered (has_room k) name o ≡ Some n → answer_at k name a scratch o ≡ answer_taken k n (left_after a scratch) (taken a scratch)
     unfolding answer_at answered
-    taken_by nothing n h = absurd (just≢nothing (sym h ∙ answered_none (has_room k)))
-    taken_by (just m) n h = go (has_room k) (same_text (without_dot name) m) refl refl h
+    taken_by None n h = absurd (just≢nothing (sym h ∙ answered_none (has_room k)))
+    taken_by (Some m) n h = go (has_room k) (same_text (without_dot name) m) refl refl h
       where
-        go : (b t : Bool) → has_room k ≡ b → same_text (without_dot name) m ≡ t → answered b name (just m) ≡ just n → answer_at k name a scratch (just m) ≡ answer_taken k n (left_after a scratch) (taken a scratch)
+        go : (b t : Bool) → has_room k ≡ b → same_text (without_dot name) m ≡ t → answered b name (Some m) ≡ Some n → answer_at k name a scratch (Some m) ≡ answer_taken k n (left_after a scratch) (taken a scratch)
         go false t e f g = absurd (just≢nothing (sym g))
         go true false e f g = absurd (just≢nothing (sym (rw f at g)))
         go true true e f g =
@@ -102,7 +99,7 @@ module _ (e : Evaluation) where
       go true false a r q x = absurd (false≢true x)
       go false h a r q x = absurd (false≢true x)
 
-  pub accepted_few : (name : Octets) {n : Name} → answered_in name ≡ just n → e.count < 136
+  pub accepted_few : (name : Octets) {n : Name} → answered_in name ≡ Some n → e.count < 136
   accepted_few name h = (live_parts (answered_live name live_in (needed (stands (message_now e) (cursor_now e))) h)).2
 
   module _ (full : length e.kept ≡ 408) where
@@ -128,24 +125,24 @@ module _ (e : Evaluation) where
 
     module _ (name : Octets) (status : Status) (bytes scratch : Octets) where
       -- refused 5
-      pub answer_not_now : answered_in name ≡ nothing → Does e (answer name status bytes scratch) e (given (acceptance_back (Acceptance.Refused (refusal 5 0))) scratch)
+      pub answer_not_now : answered_in name ≡ None → Does e (answer name status bytes scratch) e (given (acceptance_back (Err (refusal 5 0))) scratch)
       unfolding machine_call acceptance_back
       answer_not_now h =
           let by = refused_by name (view e) (answer_of status bytes) scratch (view e).asked (sym (answered_view name) ∙ h) in
           record { leaves = rw by; gives = rw by; stands = λ x. refl; same_domains = λ x. (refl, refl); numbers = λ n. n }
 
-      module _ {n : Name} (now : answered_in name ≡ just n) (after : Octets) where
-        answer_takes : (t : Taken) → Takes (answer_of status bytes) scratch t after → machine_call (view e) (answer name status bytes scratch) ≡ answer_taken (view e) n after t
+      module _ {n : Name} (now : answered_in name ≡ Some n) (after : Octets) where
+        answer_takes : (t : Result Reply Refusal) → Takes (answer_of status bytes) scratch t after → machine_call (view e) (answer name status bytes scratch) ≡ answer_taken (view e) n after t
         unfolding machine_call
         answer_takes t takes = taken_by name (view e) (answer_of status bytes) scratch (view e).asked n (sym (answered_view name) ∙ now) ∙ rw (takes.answers, takes.leaves)
 
-        pub answer_refused : (f : Refusal) → Takes (answer_of status bytes) scratch (Taken.Refused f) after → Does e (answer name status bytes scratch) e (given (acceptance_back (Acceptance.Refused f)) after)
+        pub answer_refused : (f : Refusal) → Takes (answer_of status bytes) scratch (Err f) after → Does e (answer name status bytes scratch) e (given (acceptance_back (Err f)) after)
         unfolding answer_taken acceptance_back
         answer_refused f takes =
-            let by = answer_takes (Taken.Refused f) takes in
+            let by = answer_takes (Err f) takes in
             record { leaves = rw by; gives = rw by; stands = λ x. refl; same_domains = λ x. (refl, refl); numbers = λ n. n }
 
-      module _ (walk : ℕ) (place : Octet) (now : answered_in name ≡ just (marked e walk place)) (after : Octets) (r : Reply) (later : Evaluation) (accepts : Accepts e walk place r later) where
+      module _ (walk : ℕ) (place : Octet) (now : answered_in name ≡ Some (marked e walk place)) (after : Octets) (r : Reply) (later : Evaluation) (accepts : Accepts e walk place r later) where
         now_live : (e.started ≡ true) × (e.handed ≡ true) × (e.count < 136)
         now_live = live_parts (answered_live name live_in (needed (stands (message_now e) (cursor_now e))) now)
 
@@ -161,7 +158,7 @@ module _ (e : Evaluation) where
         unfolding message_now
         same_message = rw (accepts.domains, accepts.numbers, accepts.terms)
 
-        none_asked : asked_now later later.asked ≡ nothing
+        none_asked : asked_now later later.asked ≡ None
         unfolding asked_now
         none_asked = ap (asked_now later) accepts.asked
 
@@ -173,10 +170,10 @@ module _ (e : Evaluation) where
         unfolding Numbered handed_view numbers_kept cursor_now NumberedNow OnlyThese
         numbered_on n = rw shown_later (accepts.numbered (rw shown at n))
 
-        pub answer_accepted : Takes (answer_of status bytes) scratch (Taken.Reply r) after → Does e (answer name status bytes scratch) later (given (acceptance_back Acceptance.Accepted) after)
+        pub answer_accepted : Takes (answer_of status bytes) scratch (Ok r) after → Does e (answer name status bytes scratch) later (given (acceptance_back (Ok tt)) after)
         unfolding answer_taken acceptance_back changing
         answer_accepted takes =
-            let by = answer_takes now after (Taken.Reply r) takes in
+            let by = answer_takes now after (Ok r) takes in
             record { leaves = kept_on ∙ rw by; gives = rw by; stands = λ x. absurd (false≢true (sym x)); same_domains = λ x. (accepts.domains, accepts.numbers); numbers = numbered_on }
 
 -- ------------------------------------------------------------------ the reply kept, and where it stands moved on

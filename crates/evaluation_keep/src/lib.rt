@@ -9,7 +9,7 @@ ghost use Rattle.verdict_cursor.specs.code.Positions.{place_in};
 ghost use Rattle.verdict_ahead.specs.code.Waits.{waiting_name};
 ghost use Rattle.evaluation_keep.specs.code.Asking.{answered};
 
-use verdict_ahead::Waiting;
+use verdict_ahead::Asked;
 use verdict_cursor::Position;
 use verdict_judgement::Terms;
 
@@ -20,19 +20,10 @@ const MOST_NAMES: usize = 136;
 pub fn is_live(started: bool, handed: bool, asked: bool, count: usize) -> bool
     ensures { result ≡ (started && (handed && (asked && ltb count 136))) }
 {
-    if !started {
-        return false;
-    }
-    if !handed {
-        return false;
-    }
-    if !asked {
-        return false;
-    }
-    count < MOST_NAMES
+    started && handed && asked && count < MOST_NAMES
 }
 
-// What an answer is for that is given by this name, with a final dot or without.
+// The target that an answer given by this name, with a final dot or without, is for; none where it is for none.
 pub fn find_asked<'a>(
     domains: &'a [u8],
     numbers: &'a [u16],
@@ -40,22 +31,22 @@ pub fn find_asked<'a>(
     at: Position,
     live: bool,
     name: &'a [u8],
-) -> Waiting
+) -> Option<Asked>
     ensures { (stored : List ℕ) → waiting_name domains.now numbers.now result ≡ answered live name.now (needed (stands (stored_message domains.now numbers.now t) (cursor_in domains.now numbers.now t stored (place_in at)))) }
 {
     if !live {
-        return Waiting::Nothing;
+        return None;
     }
-    let target = verdict_ahead::find_target(t, at);
-    match target {
-        Waiting::Nothing => Waiting::Nothing,
-        Waiting::For { walk, place } => {
-            let d = alignment_stored::slot(domains, numbers, walk);
+    match verdict_ahead::find_target(t, at) {
+        None => None,
+        Some(asked) => {
+            let d = alignment_stored::slot(domains, numbers, asked.walk);
             let given = domain_taken::without_dot(name);
-            if !domain_names::is_name(given, d, place) {
-                return Waiting::Nothing;
+            if domain_names::is_name(given, d, asked.place) {
+                Some(asked)
+            } else {
+                None
             }
-            Waiting::For { walk, place }
         }
     }
 }

@@ -1,4 +1,5 @@
 -- A call by numbers keeps the promise of the call itself.
+use Rattle.std.specs.Prelude.{Result, Ok, Err}
 use mathlib.Core.Path.{◌≡◌, refl, ◌∙◌, ap, sym}
 use mathlib.Core.Bool.{Bool, true, false}
 use borrow.Author.Tests.{ne_eqb}
@@ -9,7 +10,6 @@ use Rattle.asking.specs.Asking.{given}
 use Rattle.book.specs.Book.{Call}
 use Rattle.evaluation.specs.declared.Evaluation.{Evaluation}
 use Rattle.evaluation.specs.declared.Step.{Step}
-use Rattle.evaluation.specs.declared.Acceptance.{Acceptance}
 use Rattle.evaluation.specs.code.Machine.{Keeps}
 use Rattle.evaluation.specs.Promises.{changing, Does, DoesNext, Changes}
 use Rattle.evaluation.specs.GivenBack.{acceptance_back as acceptance_given, step_back as step_given}
@@ -19,6 +19,7 @@ use Rattle.evaluation_numbers.specs.declared.Called.{Called}
 use Rattle.evaluation_numbers.specs.Numbers.{held_of, is_refused, accepted_numbers, ask_numbers, judged_numbers, refused_numbers, acceptance_numbers, acceptance_said, step_numbers, step_said, Settled, Opened, Accepts, Steps}
 use Rattle.evaluation_numbers.proofs.SaidLaws.{says, exactly, acceptance_back, step_back}
 use Rattle.evaluation_lent.specs.code.Going.{GoesOn}
+use Rattle.octets.specs.declared.Refusal.{Refusal}
 
 -- ------------------------------------------------------------------ going on
 
@@ -46,26 +47,26 @@ settled number said back s after x r on = record {
 
 -- ------------------------------------------------------------------ opening, adding, answer
 
-said_accepted : (s : State) (after : Evaluation) (a : Acceptance) (r : Called) → GoesOn s after (acceptance_numbers a) r → acceptance_said r.given ≡ a
+said_accepted : (s : State) (after : Evaluation) (a : Result Unit Refusal) (r : Called) → GoesOn s after (acceptance_numbers a) r → acceptance_said r.given ≡ a
 said_accepted s after a r on = says acceptance_numbers acceptance_said acceptance_back a r.given on.gives
 
-unchanged : (s : State) (c : Call) (after : Evaluation) (a : Acceptance) (memory : Octets) → Does (held_of s) c after (given (acceptance_given a) memory) → is_refused (acceptance_numbers a) ≡ true → after ≡ held_of s
+unchanged : (s : State) (c : Call) (after : Evaluation) (a : Result Unit Refusal) (memory : Octets) → Does (held_of s) c after (given (acceptance_given a) memory) → is_refused (acceptance_numbers a) ≡ true → after ≡ held_of s
 unfolding acceptance_numbers accepted_numbers is_refused acceptance_given changing
-unchanged s c after Acceptance.Accepted memory d q = absurd (true→T {b = false} (cc q))
-unchanged s c after (Acceptance.Refused f) memory d q = d.stands refl
+unchanged s c after (Ok tt) memory d q = absurd (true→T {b = false} (cc q))
+unchanged s c after (Err f) memory d q = d.stands refl
 
-pub accepts : (s : State) (c : Call) (after : Evaluation) (a : Acceptance) (memory : Octets) (r : Called) → Does (held_of s) c after (given (acceptance_given a) memory) → GoesOn s after (acceptance_numbers a) r → Accepts s c r memory
+pub accepts : (s : State) (c : Call) (after : Evaluation) (a : Result Unit Refusal) (memory : Octets) (r : Called) → Does (held_of s) c after (given (acceptance_given a) memory) → GoesOn s after (acceptance_numbers a) r → Accepts s c r memory
 accepts s c after a memory r d on = record {
   does = rw (held_on s after (acceptance_numbers a) r on (unchanged s c after a memory d), said_accepted s after a r on) d;
   settled = settled acceptance_numbers acceptance_said acceptance_back s after a r on;
 }
 
-not_opened : (s : State) (k : OrRefused Keeps) (after : Evaluation) (a : Acceptance) → Changes (held_of s) k (record { evaluation = after; acceptance = a }) → is_refused (acceptance_numbers a) ≡ true → after ≡ held_of s
+not_opened : (s : State) (k : OrRefused Keeps) (after : Evaluation) (a : Result Unit Refusal) → Changes (held_of s) k (record { evaluation = after; acceptance = a }) → is_refused (acceptance_numbers a) ≡ true → after ≡ held_of s
 unfolding Changes acceptance_numbers accepted_numbers is_refused
 not_opened s (ok k) after a h q = absurd (true→T {b = false} (cc (rw h.0 at q)))
 not_opened s (not_ok f) after a h q = ap (λ x. x.evaluation) h
 
-pub opens : (s : State) (k : OrRefused Keeps) (after : Evaluation) (a : Acceptance) (r : Called) → Changes (held_of s) k (record { evaluation = after; acceptance = a }) → GoesOn s after (acceptance_numbers a) r → Opened s k r
+pub opens : (s : State) (k : OrRefused Keeps) (after : Evaluation) (a : Result Unit Refusal) (r : Called) → Changes (held_of s) k (record { evaluation = after; acceptance = a }) → GoesOn s after (acceptance_numbers a) r → Opened s k r
 opens s k after a r h on = record {
   does = rw (held_on s after (acceptance_numbers a) r on (not_opened s k after a h), said_accepted s after a r on) h;
   settled = settled acceptance_numbers acceptance_said acceptance_back s after a r on;

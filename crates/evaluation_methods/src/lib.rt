@@ -1,7 +1,7 @@
 // The two methods of a message, DKIM and SPF, from its stored numbers and the digits of its alignments.
-#![tactic(auto)]
+#![tactic(auto, unfolding(crate::specs::code::Methods::add_method))]
 
-ghost use Rattle.std.specs.Prelude.{◌≡◌, ◌||◌, ◌≤◌, ◌+◌, min};
+ghost use Rattle.std.specs.Prelude.{◌≡◌, ◌||◌, true, min};
 ghost use Rattle.octets.specs.Octets.{Octets};
 ghost use Rattle.alignment_stored.specs.code.Stored.{stored_identifiers};
 ghost use Rattle.alignment.specs.Numbers.{alignments_in};
@@ -17,69 +17,49 @@ pub struct Methods {
     pub spf: Method,
 }
 
-// The two methods with one identifier more in front.
+// A method with one identifier more.
+fn count_in(aligned: bool, m: Method) -> Method
+    ensures { result ≡ record { given = true; aligned = aligned || m.aligned } }
+{
+    Method {
+        given: true,
+        aligned: aligned || m.aligned,
+    }
+}
+
+// The two methods with one identifier more.
 fn add_method(k: Kind, aligned: bool, m: Methods) -> Methods
     ensures { result ≡ add_method k aligned m }
 {
-    let dkim = m.dkim;
-    let spf = m.spf;
     match k {
         Kind::Dkim => Methods {
-            dkim: Method {
-                given: true,
-                aligned: either(aligned, dkim.aligned),
-            },
-            spf,
+            dkim: count_in(aligned, m.dkim),
+            ..m
         },
         Kind::Spf => Methods {
-            dkim,
-            spf: Method {
-                given: true,
-                aligned: either(aligned, spf.aligned),
-            },
+            spf: count_in(aligned, m.spf),
+            ..m
         },
     }
 }
 
-// Whether one or the other holds.
-fn either(a: bool, b: bool) -> bool
-    ensures { result ≡ (a || b) }
-{
-    if a {
-        return true;
-    }
-    b
-}
-
-// The methods of so many identifiers, from a walk's on, with their alignments as digits.
-fn methods_from(numbers: &[u16], walk: usize, more: usize, digits: usize) -> Methods
-    requires { walk + more ≤ 17 }
-    ensures { (domains : Octets) → result ≡ methods_of (stored_identifiers domains numbers.now walk more) (alignments_in more digits) }
-{
-    if more == 0 {
-        return Methods {
-            dkim: Method {
-                given: false,
-                aligned: false,
-            },
-            spf: Method {
-                given: false,
-                aligned: false,
-            },
-        };
-    }
-    let rest = methods_from(numbers, walk + 1, more - 1, digits / 4);
-    add_method(
-        alignment_stored::kind_at(numbers, walk),
-        digits % 4 == 1,
-        rest,
-    )
-}
-
-// The methods of a message of so many identifiers, of which 16 at most are stored.
+// The two methods of a message of so many identifiers, of which 16 at most are stored, with their alignments as digits.
 pub fn find_methods(numbers: &[u16], identifiers: usize, digits: usize) -> Methods
     ensures { (domains : Octets) → result ≡ methods_of (stored_identifiers domains numbers.now 1 (min identifiers 16)) (alignments_in (min identifiers 16) digits) }
 {
-    let count = text_parts::smaller(identifiers, 16);
-    methods_from(numbers, 1, count, digits)
+    let none = Method {
+        given: false,
+        aligned: false,
+    };
+    let mut methods = Methods {
+        dkim: none,
+        spf: none,
+    };
+    let mut rest = digits;
+    for walk in 1..=identifiers.min(16) {
+        let kind = alignment_stored::kind_at(numbers, walk);
+        methods = add_method(kind, rest % 4 == 1, methods);
+        rest /= 4;
+    }
+    methods
 }

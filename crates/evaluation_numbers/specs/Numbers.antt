@@ -1,10 +1,9 @@
 -- What the numbers that cross to programs in other languages stand for. Each is read as the evaluation and the answers of the calls, so that a call
 -- by numbers has the promise of the call itself.
-use Rattle.std.specs.Prelude.{◌≡◌, List, [], ◌∷◌, Bool, true, false, ℕ, eqb, get_or, if◌then◌else◌}
+use Rattle.std.specs.Prelude.{◌≡◌, List, [], ◌∷◌, Bool, true, false, ℕ, eqb, get_or, if◌then◌else◌, Ok, Err, Result as OrErr}
 use Rattle.octets.specs.Octets.{Octets, is_set}
 use Rattle.octets.specs.Refusing.{OrRefused, refusal}
 use Rattle.octets.specs.declared.Refusal.{Refusal}
-use Rattle.octets.specs.declared.Written.{Written}
 use Rattle.domain.specs.declared.Octet.{Octet}
 use Rattle.policy.specs.declared.Policy.{Policy}
 use Rattle.verdict.specs.declared.Result.{Result}
@@ -17,8 +16,6 @@ use Rattle.rows.specs.Rows.{result_number, disposition_number}
 use Rattle.evaluation.specs.declared.Evaluation.{Evaluation}
 use Rattle.evaluation.specs.declared.Verdict.{Verdict}
 use Rattle.evaluation.specs.declared.Step.{Step}
-use Rattle.evaluation.specs.declared.Resulting.{Resulting}
-use Rattle.evaluation.specs.declared.Acceptance.{Acceptance}
 use Rattle.evaluation.specs.code.Machine.{Keeps}
 use Rattle.evaluation.specs.Promises.{Does, DoesNext, DoesResult, Changes}
 use Rattle.evaluation.specs.GivenBack.{acceptance_back}
@@ -122,12 +119,12 @@ unfoldable pub is_refused : GivenNumbers → Bool
 is_refused g = eqb g.kind 3
 
 -- an opening, an adding, an answer
-unfoldable pub acceptance_numbers : Acceptance → GivenNumbers
-acceptance_numbers Acceptance.Accepted = accepted_numbers 0
-acceptance_numbers (Acceptance.Refused f) = refused_numbers f
+unfoldable pub acceptance_numbers : OrErr Unit Refusal → GivenNumbers
+acceptance_numbers (Ok tt) = accepted_numbers 0
+acceptance_numbers (Err f) = refused_numbers f
 
-unfoldable pub acceptance_said : GivenNumbers → Acceptance
-acceptance_said g = if eqb g.kind 0 then Acceptance.Accepted else Acceptance.Refused g.refusal
+unfoldable pub acceptance_said : GivenNumbers → OrErr Unit Refusal
+acceptance_said g = if eqb g.kind 0 then (Ok tt) else Err g.refusal
 
 -- the next step
 unfoldable pub step_numbers : Step → GivenNumbers
@@ -142,33 +139,33 @@ step_said g =
     else Step.Refused g.refusal
 
 -- the result
-unfoldable pub resulting_numbers : Resulting → GivenNumbers
-resulting_numbers (Resulting.Verdict v) = judged_numbers v
-resulting_numbers (Resulting.Refused f) = refused_numbers f
+unfoldable pub resulting_numbers : OrErr Verdict Refusal → GivenNumbers
+resulting_numbers (Ok v) = judged_numbers v
+resulting_numbers (Err f) = refused_numbers f
 
-unfoldable pub resulting_said : GivenNumbers → Resulting
-resulting_said g = if eqb g.kind 2 then Resulting.Verdict (verdict_said g.verdict) else Resulting.Refused g.refusal
+unfoldable pub resulting_said : GivenNumbers → OrErr Verdict Refusal
+resulting_said g = if eqb g.kind 2 then Ok (verdict_said g.verdict) else Err g.refusal
 
 -- the field
-unfoldable pub field_numbers : Written → GivenNumbers
-field_numbers (Written.Wrote n) = accepted_numbers n
-field_numbers (Written.Refused f) = refused_numbers f
+unfoldable pub field_numbers : OrErr ℕ Refusal → GivenNumbers
+field_numbers (Ok n) = accepted_numbers n
+field_numbers (Err f) = refused_numbers f
 
-unfoldable pub field_said : GivenNumbers → Written
-field_said g = if eqb g.kind 0 then Written.Wrote g.length else Written.Refused g.refusal
+unfoldable pub field_said : GivenNumbers → OrErr ℕ Refusal
+field_said g = if eqb g.kind 0 then Ok g.length else Err g.refusal
 
 -- what is entered in a day's rows
-unfoldable pub found_numbers : Found → FoundNumbers
-found_numbers (Found.Verdict f begin) = record { kind = 2; finding = f; begin = begin; refusal = refusal 0 0 }
-found_numbers (Found.Refused f) = record {
+unfoldable pub found_numbers : OrErr Found Refusal → FoundNumbers
+found_numbers (Ok f) = record { kind = 2; finding = f.finding; begin = f.begin; refusal = refusal 0 0 }
+found_numbers (Err f) = record {
   kind = 3;
   finding = record { result = 0; disposition = 0; dkim = 0; spf = 0 };
   begin = record { 0 = 0 };
   refusal = f;
 }
 
-unfoldable pub found_said : FoundNumbers → Found
-found_said f = if eqb f.kind 2 then Found.Verdict f.finding f.begin else Found.Refused f.refusal
+unfoldable pub found_said : FoundNumbers → OrErr Found Refusal
+found_said f = if eqb f.kind 2 then Ok (record { finding = f.finding; begin = f.begin }) else Err f.refusal
 
 -- ------------------------------------------------------------------ what the calls promise: each the promise of the call itself, of what is said
 

@@ -7,8 +7,7 @@ ghost use Rattle.book.specs.Start.{opening};
 ghost use Rattle.evaluation.specs.Promises.{Changes, opened_view};
 ghost use Rattle.evaluation_open.specs.code.Opening.{existence_in, Holds};
 
-use domain_rule::Checked;
-use evaluation::{Acceptance, Changed, Evaluation};
+use evaluation::{Changed, Evaluation};
 use verdict::Existence;
 use verdict_judgement::Terms;
 
@@ -37,15 +36,16 @@ fn hold(e: Evaluation, author: &[u8], existence: u8, support: bool) -> Evaluatio
     octets_append::append_lower(author, 0, &mut domains);
     let mut numbers = e.numbers;
     numbers[0] = author.len() as u16;
-    let mut after = e;
-    after.domains = domains;
-    after.numbers = numbers;
-    after.terms = terms;
-    after.started = true;
-    after.handed = false;
-    after.asked = false;
-    after.stored = [0u16; 17];
-    after
+    Evaluation {
+        started: true,
+        handed: false,
+        asked: false,
+        domains,
+        numbers,
+        terms,
+        stored: [0; 17],
+        ..e
+    }
 }
 
 // Opens an evaluation of a message without identifiers.
@@ -54,18 +54,11 @@ pub fn open(e: Evaluation, author: &[u8], existence: u8, support: u8) -> Changed
 {
     let d = domain_taken::without_dot(author);
     match domain_rule::check(d) {
-        Checked::Bad(at) => evaluation_state::refused(e, 1, at.0),
-        Checked::Good(_) => {
-            if 2 < existence {
-                return evaluation_state::refused(e, 3, 255);
-            }
-            if 1 < support {
-                return evaluation_state::refused(e, 3, 255);
-            }
-            Changed {
-                evaluation: hold(e, d, existence, support == 1),
-                acceptance: Acceptance::Accepted,
-            }
-        }
+        Err(at) => evaluation_state::refused(e, 1, at.0),
+        Ok(_) if 2 < existence || 1 < support => evaluation_state::refused(e, 3, 255),
+        Ok(_) => Changed {
+            evaluation: hold(e, d, existence, support == 1),
+            acceptance: Ok(()),
+        },
     }
 }

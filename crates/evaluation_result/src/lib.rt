@@ -4,7 +4,8 @@
 ghost use Rattle.std.specs.Prelude.{◌≡◌, min};
 ghost use Rattle.evaluation.specs.Promises.{DoesResult};
 
-use evaluation::{Evaluation, Resulting, Verdict};
+use evaluation::{Evaluation, Verdict};
+use octets::Refusal;
 use verdict_judgement::Judged;
 
 // The most names that one message can need: eight for each walk.
@@ -14,26 +15,21 @@ const MOST_NAMES: usize = 136;
 pub fn count_answers(count: usize) -> usize
     ensures { result ≡ min count 136 }
 {
-    text_parts::smaller(count, MOST_NAMES)
+    count.min(MOST_NAMES)
 }
 
 // The result.
-pub fn result(e: Evaluation) -> Resulting
+pub fn result(e: Evaluation) -> Result<Verdict, Refusal>
     ensures { DoesResult e result }
 {
-    if !e.started {
-        return Resulting::Refused(evaluation_state::refuse(7, 0));
+    if !e.started || !e.handed {
+        return Err(evaluation_state::refuse(7, 0));
     }
-    if !e.handed {
-        return Resulting::Refused(evaluation_state::refuse(7, 0));
-    }
-    let terms = e.terms;
-    let position = e.position;
-    match verdict_conclude::judge(&e.domains, &e.numbers, &e.stored, terms, position) {
-        Judged::Missing { walk: _, place: _ } => Resulting::Refused(evaluation_state::refuse(7, 0)),
-        Judged::Done(judgement) => {
-            let count = count_answers(e.count);
-            Resulting::Verdict(Verdict { judgement, count })
-        }
+    match verdict_conclude::judge(&e.domains, &e.numbers, &e.stored, e.terms, e.position) {
+        Judged::Missing { .. } => Err(evaluation_state::refuse(7, 0)),
+        Judged::Done(judgement) => Ok(Verdict {
+            judgement,
+            count: count_answers(e.count),
+        }),
     }
 }

@@ -10,8 +10,8 @@ ghost use Rattle.domain.specs.Domain.{asked_name};
 ghost use Rattle.evaluation.specs.code.View.{blank};
 
 use domain::Octet;
-use evaluation::{Acceptance, Changed, Evaluation};
-use octets::{Refusal, Written};
+use evaluation::{Changed, Evaluation};
+use octets::Refusal;
 use verdict::Existence;
 use verdict_cursor::{KeptRuling, PlaceKind, Position};
 use verdict_judgement::Terms;
@@ -56,11 +56,11 @@ pub fn refuse(number: u8, place: usize) -> Refusal
 
 // An evaluation that was refused something, as it was.
 pub fn refused(e: Evaluation, number: u8, place: usize) -> Changed
-    ensures { result ≡ record { evaluation = e; acceptance = Acceptance.Refused (refusal number place) } }
+    ensures { result ≡ record { evaluation = e; acceptance = Err (refusal number place) } }
 {
     Changed {
         evaluation: e,
-        acceptance: Acceptance::Refused(Refusal { number, place }),
+        acceptance: Err(refuse(number, place)),
     }
 }
 
@@ -71,7 +71,7 @@ pub fn write_name<'a>(
     walk: usize,
     place: Octet,
     out: &mut [u8],
-) -> Written
+) -> Result<usize, Refusal>
     ensures { Writes (asked_name (drop place.0 (slot domains.now numbers.now walk))) out.old result out.new }
 {
     let d = alignment_stored::slot(domains, numbers, walk);
@@ -85,7 +85,7 @@ pub fn write_domain<'a>(
     walk: usize,
     place: Octet,
     out: &mut [u8],
-) -> Written
+) -> Result<usize, Refusal>
     ensures { Writes (lower (drop place.0 (slot domains.now numbers.now walk))) out.old result out.new }
 {
     let whole = alignment_stored::slot(domains, numbers, walk);

@@ -1,32 +1,33 @@
 -- The proofs of what is claimed of reading the Identity-Alignment field.
+use Rattle.std.specs.Prelude.{Option, None, Some}
 use mathlib.Core.Path.{◌≡◌, refl, sym, ap, ◌∙◌, subst}
 use mathlib.Core.List.{List, [], ◌∷◌, ◌++◌, cons≢nil, append_assoc}
-use mathlib.Core.Logic.{◌⊎◌, inl, inr, ◌↔◌}
-use mathlib.Core.Bool.{Bool, true, false, false≢true}
-use mathlib.Core.Option.{Option, none as nothing, some as just, none-ne-some, some-injective}
+use mathlib.Core.Logic.{◌⊎◌, inl, inr}
+use mathlib.Core.Bool.{Bool, true, false}
 use Prim.Native.Nat.{ℕ, zero, suc, ◌+◌, ◌-◌, ◌≤◌, ◌<◌}
 use native.Mathlib.Omega.{arith}
 use native.Mathlib.Nat.{not-suc-le-zero, le_of_suc-le-suc}
 use lib.Dec.{ltb}
 use lib.ListN.{length, take, drop, length-append, length-take, take-append-drop}
 use borrow.Author.Tests.{ltb-true, ltb-false}
-use Rattle.octets.specs.Octets.{Octets, octets, is_nothing, between}
+use Rattle.octets.specs.Octets.{Octets, octets, between}
 use Rattle.octets.specs.Refusing.{ok, not_ok, refusal}
 use Rattle.octets.specs.declared.Refusal.{Refusal}
 use Rattle.field.specs.declared.NamedMethods.{NamedMethods}
-use Rattle.grammar.specs.Grammar.{Grammar, ◌then◌, ◌or◌, Text, Viable}
+use Rattle.grammar.specs.Grammar.{Grammar, ◌then◌, Text, Viable}
 use Rattle.grammar.specs.code.Finding.{fault, shortest_text}
 use Rattle.grammar.specs.code.Finding.{Faults}
 use Rattle.grammar.specs.Grammar.{Fault}
 use Rattle.field.specs.Field.{one, letter, literal, dkim, spf, id_align, repeating, any_depth}
-use Rattle.field.specs.code.Reading.{naming, at_place, begin_of_word, outside_grammar, too_deep, spelled_again, refusals, earlier, earliest, methods_named, read_field}
+use Rattle.field.specs.code.Reading.{at_place, begin_of_word, outside_grammar, too_deep, spelled_again, refusals, earlier, earliest, methods_named, read_field}
 use Rattle.field.specs.Claims.{NoRepeats, FieldClaims}
 use Rattle.field.proofs.RefusingLaws.{ok≢refused, ok_injective, refused_injective}
 use Rattle.grammar.proofs.Claimed.{faults, shortest_front}
-use Rattle.field.proofs.DepthLaws.{field_begins, field_as_deep, front_as_deep}
+use Rattle.field.proofs.DepthLaws.{field_begins, front_as_deep}
+use Rattle.std.proofs.lemmas.Option.{none-some, same_Some}
 
-just≢nothing : {A : Type 0} {a : A} → just a ≡ nothing → ⊥
-just≢nothing {A} {a} e = none-ne-some a (sym e)
+just≢nothing : {A : Type 0} {a : A} → Some a ≡ None → ⊥
+just≢nothing {A} {a} e = none-some a (sym e)
 
 -- ------------------------------------------------------------------ the earliest
 
@@ -49,55 +50,55 @@ append_in r (x ∷ xs) ys (inl (inl e)) = inl e
 append_in r (x ∷ xs) ys (inl (inr h)) = inr (append_in r xs ys (inl h))
 append_in r (x ∷ xs) ys (inr h) = inr (append_in r xs ys (inr h))
 
-place_in : (number : ℕ) (o : Option ℕ) (p : ℕ) → o ≡ just p → In (refusal number p) (at_place number o)
+place_in : (number : ℕ) (o : Option ℕ) (p : ℕ) → o ≡ Some p → In (refusal number p) (at_place number o)
 unfolding In at_place
-place_in number nothing p e = absurd (just≢nothing (sym e))
-place_in number (just q) p e = inl (ap (refusal number) (sym (some-injective q p e)))
+place_in number None p e = absurd (just≢nothing (sym e))
+place_in number (Some q) p e = inl (ap (refusal number) (sym (same_Some q p e)))
 
-in_place : (r : Refusal) (number : ℕ) (o : Option ℕ) → In r (at_place number o) → (p : ℕ) × (o ≡ just p) × (r ≡ refusal number p)
+in_place : (r : Refusal) (number : ℕ) (o : Option ℕ) → In r (at_place number o) → (p : ℕ) × (o ≡ Some p) × (r ≡ refusal number p)
 unfolding In at_place
-in_place r number nothing h = absurd h
-in_place r number (just p) (inl e) = (p, refl, e)
-in_place r number (just p) (inr h) = absurd h
+in_place r number None h = absurd h
+in_place r number (Some p) (inl e) = (p, refl, e)
+in_place r number (Some p) (inr h) = absurd h
 
 -- of two, one is the earlier; the second only where its place is less
-earlier_is : (r : Refusal) (o : Option Refusal) (q : Refusal) → earlier r o ≡ just q → (q ≡ r) ⊎ ((o ≡ just q) × (q.place < r.place))
+earlier_is : (r : Refusal) (o : Option Refusal) (q : Refusal) → earlier r o ≡ Some q → (q ≡ r) ⊎ ((o ≡ Some q) × (q.place < r.place))
 unfolding earlier
-earlier_is r nothing q e = inl (sym (some-injective r q e))
-earlier_is r (just o) q e = go (ltb o.place r.place) refl
+earlier_is r None q e = inl (sym (same_Some r q e))
+earlier_is r (Some o) q e = go (ltb o.place r.place) refl
   where
-    go : (c : Bool) → ltb o.place r.place ≡ c → (q ≡ r) ⊎ ((just o ≡ just q) × (q.place < r.place))
-    go true f = let i : just o ≡ just q = rw f at e in inr (i, subst (λ z. z.place < r.place) (some-injective o q i) (ltb-true o.place r.place f))
-    go false f = inl (sym (some-injective r q (rw f at e)))
+    go : (c : Bool) → ltb o.place r.place ≡ c → (q ≡ r) ⊎ ((Some o ≡ Some q) × (q.place < r.place))
+    go true f = let i : Some o ≡ Some q = rw f at e in inr (i, subst (λ z. z.place < r.place) (same_Some o q i) (ltb-true o.place r.place f))
+    go false f = inl (sym (same_Some r q (rw f at e)))
 
-earliest_in : (rs : List Refusal) (q : Refusal) → earliest rs ≡ just q → In q rs
+earliest_in : (rs : List Refusal) (q : Refusal) → earliest rs ≡ Some q → In q rs
 unfolding earliest In
 earliest_in [] q e = just≢nothing (sym e)
 earliest_in (r ∷ rs) q e = elim (earlier_is r (earliest rs) q e) [ inl f ↦ inl f | inr f ↦ inr (earliest_in rs q f.0) ]
 
-earlier_least : (r : Refusal) (o : Option Refusal) (q : Refusal) → earlier r o ≡ just q → (q.place ≤ r.place) × ((x : Refusal) → o ≡ just x → q.place ≤ x.place)
+earlier_least : (r : Refusal) (o : Option Refusal) (q : Refusal) → earlier r o ≡ Some q → (q.place ≤ r.place) × ((x : Refusal) → o ≡ Some x → q.place ≤ x.place)
 unfolding earlier
-earlier_least r nothing q e = (omega (arith, ap (λ z. z.place) (some-injective r q e)), λ x f. absurd (just≢nothing (sym f)))
-earlier_least r (just o) q e = go (ltb o.place r.place) refl
+earlier_least r None q e = (omega (arith, ap (λ z. z.place) (same_Some r q e)), λ x f. absurd (just≢nothing (sym f)))
+earlier_least r (Some o) q e = go (ltb o.place r.place) refl
   where
-    go : (c : Bool) → ltb o.place r.place ≡ c → (q.place ≤ r.place) × ((x : Refusal) → just o ≡ just x → q.place ≤ x.place)
+    go : (c : Bool) → ltb o.place r.place ≡ c → (q.place ≤ r.place) × ((x : Refusal) → Some o ≡ Some x → q.place ≤ x.place)
     go true f =
-        let i = ap (λ z. z.place) (some-injective o q (rw f at e)) in
-        (omega (arith, i, ltb-true o.place r.place f), λ x g. omega (arith, i, ap (λ z. z.place) (some-injective o x g)))
+        let i = ap (λ z. z.place) (same_Some o q (rw f at e)) in
+        (omega (arith, i, ltb-true o.place r.place f), λ x g. omega (arith, i, ap (λ z. z.place) (same_Some o x g)))
     go false f =
-        let i = ap (λ z. z.place) (some-injective r q (rw f at e)) in
-        (omega (arith, i), λ x g. omega (arith, i, ltb-false o.place r.place f, ap (λ z. z.place) (some-injective o x g)))
+        let i = ap (λ z. z.place) (same_Some r q (rw f at e)) in
+        (omega (arith, i), λ x g. omega (arith, i, ltb-false o.place r.place f, ap (λ z. z.place) (same_Some o x g)))
 
-earlier_some : (r : Refusal) (o : Option Refusal) → earlier r o ≡ nothing → ⊥
+earlier_some : (r : Refusal) (o : Option Refusal) → earlier r o ≡ None → ⊥
 unfolding earlier
-earlier_some r nothing e = just≢nothing e
-earlier_some r (just o) e = go (ltb o.place r.place) refl
+earlier_some r None e = just≢nothing e
+earlier_some r (Some o) e = go (ltb o.place r.place) refl
   where
     go : (c : Bool) → ltb o.place r.place ≡ c → ⊥
     go true f = just≢nothing (rw f at e)
     go false f = just≢nothing (rw f at e)
 
-earliest_none : (rs : List Refusal) → earliest rs ≡ nothing → rs ≡ []
+earliest_none : (rs : List Refusal) → earliest rs ≡ None → rs ≡ []
 unfolding earliest
 earliest_none [] e = refl
 earliest_none (r ∷ rs) e = absurd (earlier_some r (earliest rs) e)
@@ -106,68 +107,68 @@ not_in : (r : Refusal) → In r [] → ⊥
 unfolding In
 not_in r h = h
 
-earliest_least : (rs : List Refusal) (q r : Refusal) → earliest rs ≡ just q → In r rs → q.place ≤ r.place
+earliest_least : (rs : List Refusal) (q r : Refusal) → earliest rs ≡ Some q → In r rs → q.place ≤ r.place
 unfolding earliest In
 earliest_least [] q r e h = absurd h
 earliest_least (x ∷ rs) q r e (inl f) = omega (arith, (earlier_least x (earliest rs) q e).0, ap (λ z. z.place) f)
 earliest_least (x ∷ rs) q r e (inr h) = go (earliest rs) refl (earliest_least rs)
   where
-    go : (o : Option Refusal) → earliest rs ≡ o → ((q r : Refusal) → earliest rs ≡ just q → In r rs → q.place ≤ r.place) → q.place ≤ r.place
-    go nothing f k = absurd (not_in r (subst (In r) (earliest_none rs f) h))
-    go (just y) f k = omega (arith, k y r f h, (earlier_least x (earliest rs) q e).1 y f)
+    go : (o : Option Refusal) → earliest rs ≡ o → ((q r : Refusal) → earliest rs ≡ Some q → In r rs → q.place ≤ r.place) → q.place ≤ r.place
+    go None f k = absurd (not_in r (subst (In r) (earliest_none rs f) h))
+    go (Some y) f k = omega (arith, k y r f h, (earlier_least x (earliest rs) q e).1 y f)
 
 -- ------------------------------------------------------------------ what was read
 
 module _ (s : Octets) where
-  when_ok : (m : NamedMethods) → read_field s ≡ ok m → (earliest (refusals s) ≡ nothing) × (methods_named s ≡ m)
+  when_ok : (m : NamedMethods) → read_field s ≡ ok m → (earliest (refusals s) ≡ None) × (methods_named s ≡ m)
   unfolding read_field
   when_ok m e = go (earliest (refusals s)) refl
     where
-      go : (o : Option Refusal) → earliest (refusals s) ≡ o → (earliest (refusals s) ≡ nothing) × (methods_named s ≡ m)
-      go nothing f = (f, ok_injective (rw (f, read_field) at e))
-      go (just r) f = absurd (ok≢refused (sym (rw (f, read_field) at e)))
+      go : (o : Option Refusal) → earliest (refusals s) ≡ o → (earliest (refusals s) ≡ None) × (methods_named s ≡ m)
+      go None f = (f, ok_injective (rw (f, read_field) at e))
+      go (Some r) f = absurd (ok≢refused (sym (rw (f, read_field) at e)))
 
-  when_refused : (r : Refusal) → read_field s ≡ not_ok r → earliest (refusals s) ≡ just r
+  when_refused : (r : Refusal) → read_field s ≡ not_ok r → earliest (refusals s) ≡ Some r
   unfolding read_field
   when_refused r e = go (earliest (refusals s)) refl
     where
-      go : (o : Option Refusal) → earliest (refusals s) ≡ o → earliest (refusals s) ≡ just r
-      go nothing f = absurd (ok≢refused (rw (f, read_field) at e))
-      go (just q) f = f ∙ ap just (refused_injective (rw (f, read_field) at e))
+      go : (o : Option Refusal) → earliest (refusals s) ≡ o → earliest (refusals s) ≡ Some r
+      go None f = absurd (ok≢refused (rw (f, read_field) at e))
+      go (Some q) f = f ∙ ap Some (refused_injective (rw (f, read_field) at e))
 
-  if_none : earliest (refusals s) ≡ nothing → read_field s ≡ ok (methods_named s)
+  if_none : earliest (refusals s) ≡ None → read_field s ≡ ok (methods_named s)
   unfolding read_field
   if_none f = rw (f, read_field)
 
 -- ------------------------------------------------------------------ the four refusals that may be due
 
-no_place : (number : ℕ) (o : Option ℕ) → at_place number o ≡ [] → o ≡ nothing
+no_place : (number : ℕ) (o : Option ℕ) → at_place number o ≡ [] → o ≡ None
 unfolding at_place
-no_place number nothing e = refl
-no_place number (just p) e = absurd (cons≢nil e)
+no_place number None e = refl
+no_place number (Some p) e = absurd (cons≢nil e)
 
 both_none : (xs ys : List Refusal) → xs ++ ys ≡ [] → (xs ≡ []) × (ys ≡ [])
 both_none [] ys e = (refl, e)
 both_none (x ∷ xs) ys e = absurd (cons≢nil e)
 
-no_word : (n : ℕ) (o : Option ℕ) → begin_of_word n o ≡ nothing → o ≡ nothing
+no_word : (n : ℕ) (o : Option ℕ) → begin_of_word n o ≡ None → o ≡ None
 unfolding begin_of_word
-no_word n nothing e = refl
-no_word n (just p) e = absurd (just≢nothing e)
+no_word n None e = refl
+no_word n (Some p) e = absurd (just≢nothing e)
 
-word_at : (n : ℕ) (o : Option ℕ) (p : ℕ) → begin_of_word n o ≡ just p → (e : ℕ) × (o ≡ just e) × (p ≡ e - n)
+word_at : (n : ℕ) (o : Option ℕ) (p : ℕ) → begin_of_word n o ≡ Some p → (e : ℕ) × (o ≡ Some e) × (p ≡ e - n)
 unfolding begin_of_word
-word_at n nothing p f = absurd (just≢nothing (sym f))
-word_at n (just e) p f = (e, refl, sym (some-injective (e - n) p f))
+word_at n None p f = absurd (just≢nothing (sym f))
+word_at n (Some e) p f = (e, refl, sym (same_Some (e - n) p f))
 
 module _ (s : Octets) where
-  record None : Type 0 where
-    no_24 : outside_grammar s ≡ nothing
-    no_25 : too_deep s ≡ nothing
-    no_dkim : spelled_again 4 dkim s ≡ nothing
-    no_spf : spelled_again 3 spf s ≡ nothing
+  record NoneDue : Type 0 where
+    no_24 : outside_grammar s ≡ None
+    no_25 : too_deep s ≡ None
+    no_dkim : spelled_again 4 dkim s ≡ None
+    no_spf : spelled_again 3 spf s ≡ None
 
-  none_due : refusals s ≡ [] → None
+  none_due : refusals s ≡ [] → NoneDue
   unfolding refusals
   none_due e =
       let a = at_place 24 (outside_grammar s) in
@@ -179,15 +180,15 @@ module _ (s : Octets) where
       let h = both_none a b g.0 in
       record { no_24 = no_place 24 _ h.0; no_25 = no_place 25 _ h.1; no_dkim = no_place 26 _ g.1; no_spf = no_place 26 _ f.1 }
 
-  due_none : None → refusals s ≡ []
+  due_none : NoneDue → refusals s ≡ []
   unfolding refusals at_place
   due_none h = rw (h.no_24, h.no_25, h.no_dkim, h.no_spf)
 
   data Due (r : Refusal) : Type 0 where
-    due_24 : (p : ℕ) → outside_grammar s ≡ just p → r ≡ refusal 24 p → Due r
-    due_25 : (p : ℕ) → too_deep s ≡ just p → r ≡ refusal 25 p → Due r
-    due_dkim : (p : ℕ) → spelled_again 4 dkim s ≡ just p → r ≡ refusal 26 p → Due r
-    due_spf : (p : ℕ) → spelled_again 3 spf s ≡ just p → r ≡ refusal 26 p → Due r
+    due_24 : (p : ℕ) → outside_grammar s ≡ Some p → r ≡ refusal 24 p → Due r
+    due_25 : (p : ℕ) → too_deep s ≡ Some p → r ≡ refusal 25 p → Due r
+    due_dkim : (p : ℕ) → spelled_again 4 dkim s ≡ Some p → r ≡ refusal 26 p → Due r
+    due_spf : (p : ℕ) → spelled_again 3 spf s ≡ Some p → r ≡ refusal 26 p → Due r
 
   is_due : (r : Refusal) → In r (refusals s) → Due r
   unfolding refusals
@@ -273,7 +274,7 @@ unfolding spf octets
 spf_length v t = word_length (octets "spf") v t
 
 -- where a method is repeated: it ends a text of `repeating`
-repeat_at : (s : Octets) (k : ℕ) (m : Grammar) → ((v : Octets) → Text m v → length v ≡ k) → (p : ℕ) → spelled_again k m s ≡ just p → (p + k ≤ length s) × Text (repeating (any_depth s) m) (take (p + k) s)
+repeat_at : (s : Octets) (k : ℕ) (m : Grammar) → ((v : Octets) → Text m v → length v ≡ k) → (p : ℕ) → spelled_again k m s ≡ Some p → (p + k ≤ length s) × Text (repeating (any_depth s) m) (take (p + k) s)
 unfolding spelled_again
 repeat_at s k m h p e =
     let g = repeating (any_depth s) m in
@@ -324,7 +325,7 @@ module _ (s : Octets) where
   ]
 
   -- where 25 is given, 24 is not due, or further on
-  before_24 : (p : ℕ) → read_field s ≡ not_ok (refusal 25 p) → (q : ℕ) → outside_grammar s ≡ just q → p < q
+  before_24 : (p : ℕ) → read_field s ≡ not_ok (refusal 25 p) → (q : ℕ) → outside_grammar s ≡ Some q → p < q
   unfolding refusals at_place earliest
   before_24 p e q f = elim (earlier_is (refusal 24 q) (earliest rest) (refusal 25 p) field_answer) [
     | inl g ↦ absurd (omega (arith, ap (λ r. r.number) g))
@@ -337,16 +338,16 @@ module _ (s : Octets) where
       listed : refusals s ≡ refusal 24 q ∷ rest
       listed = rw (f, refusals)
 
-      field_answer : earlier (refusal 24 q) (earliest rest) ≡ just (refusal 25 p)
+      field_answer : earlier (refusal 24 q) (earliest rest) ≡ Some (refusal 25 p)
       field_answer = sym (ap earliest listed) ∙ when_refused s (refusal 25 p) e
 
-  goes_on : (p : ℕ) → ((q : ℕ) → outside_grammar s ≡ just q → p < q) → Viable (id_align (any_depth s)) (take (suc p) s)
+  goes_on : (p : ℕ) → ((q : ℕ) → outside_grammar s ≡ Some q → p < q) → Viable (id_align (any_depth s)) (take (suc p) s)
   unfolding outside_grammar free
   goes_on p h = go (outside_grammar s) refl
     where
       go : (o : Option ℕ) → outside_grammar s ≡ o → Viable (id_align (any_depth s)) (take (suc p) s)
-      go nothing f = text_begins (id_align (any_depth s)) (suc p) s (free_faults.without f)
-      go (just q) f = begins_less (id_align (any_depth s)) (suc p) q s (h q f) (free_faults.place (field_begins (any_depth s)) q f).before
+      go None f = text_begins (id_align (any_depth s)) (suc p) s (free_faults.without f)
+      go (Some q) f = begins_less (id_align (any_depth s)) (suc p) q s (h q f) (free_faults.place (field_begins (any_depth s)) q f).before
 
   claimed_25 : (p : ℕ) → read_field s ≡ not_ok (refusal 25 p) → Fault (id_align 8) s p × Viable (id_align (any_depth s)) (take (suc p) s)
   unfolding too_deep
@@ -365,15 +366,15 @@ module _ (s : Octets) (r : Refusal) (e : read_field s ≡ not_ok r) where
   least : (q : Refusal) → In q (refusals s) → r.place ≤ q.place
   least q h = earliest_least (refusals s) r q (when_refused s r e) h
 
-  least_25 : (p : ℕ) → too_deep s ≡ just p → r.place ≤ p
+  least_25 : (p : ℕ) → too_deep s ≡ Some p → r.place ≤ p
   unfolding refusals
   least_25 p f = least (refusal 25 p) (append_in _ _ _ (inl (append_in _ _ _ (inl (append_in _ (at_place 24 (outside_grammar s)) _ (inr (place_in 25 (too_deep s) p f)))))))
 
-  least_dkim : (p : ℕ) → spelled_again 4 dkim s ≡ just p → r.place ≤ p
+  least_dkim : (p : ℕ) → spelled_again 4 dkim s ≡ Some p → r.place ≤ p
   unfolding refusals
   least_dkim p f = least (refusal 26 p) (append_in _ _ _ (inl (append_in _ (at_place 24 (outside_grammar s) ++ at_place 25 (too_deep s)) _ (inr (place_in 26 (spelled_again 4 dkim s) p f)))))
 
-  least_spf : (p : ℕ) → spelled_again 3 spf s ≡ just p → r.place ≤ p
+  least_spf : (p : ℕ) → spelled_again 3 spf s ≡ Some p → r.place ≤ p
   unfolding refusals
   least_spf p f = least (refusal 26 p) (append_in _ (at_place 24 (outside_grammar s) ++ at_place 25 (too_deep s) ++ at_place 26 (spelled_again 4 dkim s)) _ (inr (place_in 26 (spelled_again 3 spf s) p f)))
 
@@ -382,11 +383,11 @@ module _ (s : Octets) (r : Refusal) (e : read_field s ≡ not_ok r) where
   begun = go (fault (id_align 8) s) refl
     where
       go : (o : Option ℕ) → fault (id_align 8) s ≡ o → Viable (id_align 8) (take r.place s)
-      go nothing f = text_begins (id_align 8) r.place s ((deep_faults s).without f)
-      go (just p) f = begins_less (id_align 8) r.place p s (least_25 p f) ((deep_faults s).place (field_begins 8) p f).before
+      go None f = text_begins (id_align 8) r.place s ((deep_faults s).without f)
+      go (Some p) f = begins_less (id_align 8) r.place p s (least_25 p f) ((deep_faults s).place (field_begins 8) p f).before
 
   -- no front part up to the place ends in a method spelled again
-  none_ends : (k : ℕ) (m : Grammar) → 0 < k → ((v : Octets) → Text m v → length v ≡ k) → ((p : ℕ) → spelled_again k m s ≡ just p → r.place ≤ p)
+  none_ends : (k : ℕ) (m : Grammar) → 0 < k → ((v : Octets) → Text m v → length v ≡ k) → ((p : ℕ) → spelled_again k m s ≡ Some p → r.place ≤ p)
       → (n : ℕ) → n ≤ length (take r.place s) → Text (repeating (any_depth s) m) (take n (take r.place s)) → ⊥
   unfolding spelled_again begin_of_word
   none_ends k m pos long h n l t = go (shortest_text g s) refl
@@ -401,8 +402,8 @@ module _ (s : Octets) (r : Refusal) (e : read_field s ≡ not_ok r) where
       text = subst (Text g) (take_take n r.place s within) t
 
       go : (o : Option ℕ) → shortest_text g s ≡ o → ⊥
-      go nothing f = (shortest_front g s).none f n (omega (arith, l, length-take r.place s)) text
-      go (just x) f =
+      go None f = (shortest_front g s).none f n (omega (arith, l, length-take r.place s)) text
+      go (Some x) f =
           let y : r.place ≤ x - k = h (x - k) (ap (begin_of_word k) f) in
           let z : k ≤ length (take x s) = repeating_length (any_depth s) m k long (take x s) ((shortest_front g s).is x f).1 in
           (shortest_front g s).not_before x f n (omega (arith, y, z, length-take x s, within, pos)) text

@@ -1,26 +1,24 @@
 -- The numbers of what is read say it again.
+use Rattle.std.specs.Prelude.{Ok, Err}
 use mathlib.Core.Path.{◌≡◌, refl}
 use mathlib.Core.Logic.{◌⊎◌, inl, inr}
-use mathlib.Core.Bool.{Bool, true, false, not}
 use native.Mathlib.Omega.{arith}
-use lib.Dec.{eqb}
 use borrow.Author.Tests.{ne_eqb}
 use Rattle.octets.specs.Octets.{Octets}
 use Rattle.octets.specs.Refusing.{OrRefused, ok, not_ok}
 use Rattle.octets.specs.declared.Refusal.{Refusal}
 use Rattle.octets.proofs.TextLaws.{flag_said}
 use Rattle.field.specs.declared.NamedMethods.{NamedMethods}
-use Rattle.field.specs.declared.FieldRead.{FieldRead}
 use Rattle.field.specs.code.Reading.{read_field}
 use Rattle.field.specs.Numbers.{field_answer, field_read}
 use Rattle.field.specs.Numbers.{field_read_numbers, field_read_said, SaidAgain}
 use Rattle.field.proofs.Claimed.{field_claims}
 
-refusal_said : (r : Refusal) → (r.number ≡ 0 → ⊥) → field_read_said (field_read_numbers (FieldRead.Refused r)) ≡ FieldRead.Refused r
+refusal_said : (r : Refusal) → (r.number ≡ 0 → ⊥) → field_read_said (field_read_numbers (Err r)) ≡ Err r
 unfolding field_read_said field_read_numbers
 refusal_said r h = rw (ne_eqb r.number 0 h)
 
-methods_said : (m : NamedMethods) → field_read_said (field_read_numbers (FieldRead.Named m)) ≡ FieldRead.Named m
+methods_said : (m : NamedMethods) → field_read_said (field_read_numbers (Ok m)) ≡ Ok m
 unfolding field_read_said field_read_numbers
 methods_said m = rw (flag_said m.dkim, flag_said m.spf)
 

@@ -10,13 +10,6 @@ pub struct NamedMethods {
     pub spf: bool,
 }
 
-// What a reader answers: the methods named, or why the text is no such field.
-#[derive(Clone, Copy)]
-pub enum FieldRead {
-    Named(NamedMethods),
-    Refused(Refusal),
-}
-
 // What a reader answers, by numbers, for programs in other languages; a refusal of number 0 is none, and a method is named 1 or not 0. Refused, both
 // are 1.
 #[repr(C)]

@@ -2,106 +2,70 @@
 #![tactic(auto)]
 
 ghost use Rattle.std.specs.Prelude.{◌≡◌};
-ghost use Rattle.field_states.specs.code.States.{closes, ninth, is_wrong, ends};
-ghost use Rattle.field_blanks.specs.code.Rows.{blanks_row, blanks_kind, after_space};
+ghost use Rattle.field_states.specs.code.States.{after_blank, after_cr, after_lf, closes, ninth, is_open, is_wrong, ends};
+ghost use Rattle.field_blanks.specs.code.Rows.{after_space};
 
 use field_states::{Blanks, Side, State};
 
-// By the blanks read: those behind a blank, behind a CR that folds, behind one that may end the field, and behind a LF.
-const BLANK: [Blanks; 9] = [
-    Blanks::Blank,
-    Blanks::Blank,
-    Blanks::Wrong,
-    Blanks::Folded,
-    Blanks::Folded,
-    Blanks::Fresh,
-    Blanks::Wrong,
-    Blanks::Wrong,
-    Blanks::Wrong,
-];
+// Whether blanks may end there.
+#[tactic(auto, unfolding(field_states::specs::code::States::is_open))]
+fn is_open(b: Blanks) -> bool
+    ensures { result ≡ is_open b }
+{
+    matches!(b, Blanks::Fresh | Blanks::Blank | Blanks::Folded)
+}
 
-const FOLD: [Blanks; 9] = [
-    Blanks::Cr,
-    Blanks::Cr,
-    Blanks::Wrong,
-    Blanks::Wrong,
-    Blanks::Wrong,
-    Blanks::Wrong,
-    Blanks::Wrong,
-    Blanks::Wrong,
-    Blanks::Wrong,
-];
-
-const CLOSE: [Blanks; 9] = [
-    Blanks::Cr,
-    Blanks::Cr,
-    Blanks::Wrong,
-    Blanks::Wrong,
-    Blanks::Ending,
-    Blanks::Wrong,
-    Blanks::Wrong,
-    Blanks::Wrong,
-    Blanks::Wrong,
-];
-
-const LINE: [Blanks; 9] = [
-    Blanks::Wrong,
-    Blanks::Wrong,
-    Blanks::Line,
-    Blanks::Wrong,
-    Blanks::Wrong,
-    Blanks::Wrong,
-    Blanks::Ended,
-    Blanks::Wrong,
-    Blanks::Wrong,
-];
-
-// 1 where blanks may end, 2 behind a backslash, 3 where the text is wrong, 4 behind a CR LF that folds or ends the field, 5 behind one that ends it.
-const KINDS: [u8; 9] = [1, 1, 0, 4, 1, 2, 0, 5, 3];
-
-// The row of blanks in the tables.
-fn row_of(b: Blanks) -> usize
-    ensures { result ≡ blanks_row b }
+// The blanks behind a space or a tab.
+#[tactic(auto, unfolding(field_states::specs::code::States::after_blank))]
+fn read_blank(b: Blanks) -> Blanks
+    ensures { result ≡ after_blank b }
 {
     match b {
-        Blanks::Fresh => 0,
-        Blanks::Blank => 1,
-        Blanks::Cr => 2,
-        Blanks::Line => 3,
-        Blanks::Folded => 4,
-        Blanks::Escaped => 5,
-        Blanks::Ending => 6,
-        Blanks::Ended => 7,
-        Blanks::Wrong => 8,
+        Blanks::Fresh | Blanks::Blank => Blanks::Blank,
+        Blanks::Line | Blanks::Folded => Blanks::Folded,
+        Blanks::Escaped => Blanks::Fresh,
+        Blanks::Cr | Blanks::Ending | Blanks::Ended | Blanks::Wrong => Blanks::Wrong,
     }
 }
 
-// Of what kind the blanks are.
-pub fn kind_of(b: Blanks) -> u8
-    ensures { result ≡ blanks_kind b }
+// The blanks behind a CR, which folds, or ends the field where a CR LF may.
+#[tactic(auto, unfolding(field_states::specs::code::States::after_cr))]
+fn read_cr(b: Blanks, closes: bool) -> Blanks
+    ensures { result ≡ after_cr closes b }
 {
-    let n = row_of(b);
-    KINDS[n]
+    match b {
+        Blanks::Fresh | Blanks::Blank => Blanks::Cr,
+        Blanks::Folded if closes => Blanks::Ending,
+        _ => Blanks::Wrong,
+    }
+}
+
+// The blanks behind a LF.
+#[tactic(auto, unfolding(field_states::specs::code::States::after_lf))]
+fn read_lf(b: Blanks) -> Blanks
+    ensures { result ≡ after_lf b }
+{
+    match b {
+        Blanks::Cr => Blanks::Line,
+        Blanks::Ending => Blanks::Ended,
+        _ => Blanks::Wrong,
+    }
 }
 
 // The blanks behind a CR, a LF or a blank.
+#[tactic(auto, unfolding(crate::specs::code::Rows::after_space))]
 pub fn read_space(b: Blanks, closes: bool, x: u8) -> Blanks
     ensures { result ≡ after_space b closes x }
 {
-    let n = row_of(b);
-    if x == 13 {
-        if closes {
-            return CLOSE[n];
-        }
-        return FOLD[n];
+    match x {
+        b'\r' => read_cr(b, closes),
+        b'\n' => read_lf(b),
+        _ => read_blank(b),
     }
-    if x == 10 {
-        return LINE[n];
-    }
-    BLANK[n]
 }
 
 // Whether a CR LF may end the field there.
+#[tactic(auto, unfolding(field_states::specs::code::States::closes))]
 pub fn may_close(side: Side, depth: usize) -> bool
     ensures { result ≡ closes side depth }
 {
@@ -112,35 +76,29 @@ pub fn may_close(side: Side, depth: usize) -> bool
 }
 
 // Whether the field may end there.
+#[tactic(auto, unfolding(field_states::specs::code::States::ends, field_states::specs::code::States::is_ended))]
 pub fn may_end(side: Side, b: Blanks, depth: usize) -> bool
     ensures { result ≡ ends (State.Between side b depth) }
 {
-    let kind = kind_of(b);
-    if kind == 4 {
-        return may_close(side, depth);
+    match b {
+        Blanks::Line => may_close(side, depth),
+        Blanks::Ended => true,
+        _ => false,
     }
-    kind == 5
 }
 
 // Whether an octet opens a ninth comment.
+#[tactic(auto, unfolding(field_states::specs::code::States::ninth, field_states::specs::code::States::opens, field_states::specs::code::States::depth_of))]
 pub fn is_ninth(side: Side, b: Blanks, depth: usize, x: u8) -> bool
     ensures { result ≡ ninth (State.Between side b depth) x }
 {
-    if kind_of(b) != 1 {
-        return false;
-    }
-    if x != 40 {
-        return false;
-    }
-    8 <= depth
+    is_open(b) && x == b'(' && 8 <= depth
 }
 
 // Whether an octet was wrong.
+#[tactic(auto, unfolding(field_states::specs::code::States::is_wrong, field_states::specs::code::States::is_shut))]
 pub fn was_wrong(state: State) -> bool
     ensures { result ≡ is_wrong state }
 {
-    match state {
-        State::Spelling(_, _) => false,
-        State::Between(_, b, _) => kind_of(b) == 3,
-    }
+    matches!(state, State::Between(_, Blanks::Wrong, _))
 }

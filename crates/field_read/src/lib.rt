@@ -1,37 +1,27 @@
 // Reading the Identity-Alignment field.
 #![tactic(auto)]
 
-ghost use Rattle.std.specs.Prelude.{◌≡◌, ◌-◌};
+ghost use Rattle.std.specs.Prelude.{◌≡◌};
 ghost use Rattle.octets.specs.Refusing.{refusal};
 ghost use Rattle.field.specs.Numbers.{field_answer, field_read};
 ghost use Rattle.field_states.specs.code.States.{turn, ends, ended};
 
-use field::{FieldRead, NamedMethods};
-use field_states::{Reader, State, Turn, Word};
+use field::NamedMethods;
+use field_states::{Misread, Reader, State, Word};
 use octets::Refusal;
 
-fn refuse(number: u8, place: usize) -> FieldRead
-    ensures { result ≡ FieldRead.Refused (refusal number place) }
+// A refusal at a place.
+fn refuse(number: u8, place: usize) -> Result<NamedMethods, Refusal>
+    ensures { result ≡ Err (refusal number place) }
 {
-    FieldRead::Refused(Refusal { number, place })
+    Err(Refusal { number, place })
 }
 
-// Where a word of so many octets begins, by where it ends.
-fn begin_of(end: usize, size: usize) -> usize
-    ensures { result ≡ end - size }
-{
-    if end < size {
-        return 0;
-    }
-    end - size
-}
-
-// A reader after one octet more.
-fn take_turn(r: Reader, x: u8) -> Turn
+// The reader after one octet more, or why the octet is refused.
+fn take_turn(r: Reader, x: u8) -> Result<Reader, Misread>
     ensures { result ≡ turn r x }
 {
-    let state = r.state;
-    match state {
+    match r.state {
         State::Spelling(w, k) => field_word::turn_in_word(w, k, r.dkim, r.spf, x),
         State::Between(side, b, depth) => {
             field_gap::turn_between(side, b, depth, r.dkim, r.spf, x)
@@ -39,6 +29,8 @@ fn take_turn(r: Reader, x: u8) -> Turn
     }
 }
 
+// Whether the field may end in a state.
+#[tactic(auto, unfolding(field_states::specs::code::States::ends))]
 fn may_end(state: State) -> bool
     ensures { result ≡ ends state }
 {
@@ -49,21 +41,22 @@ fn may_end(state: State) -> bool
 }
 
 // What was read, where the text ends.
-fn read_end(r: Reader, length: usize) -> FieldRead
+#[tactic(auto, unfolding(field_states::specs::code::States::ended, field::specs::Numbers::field_answer))]
+fn read_end(r: Reader, length: usize) -> Result<NamedMethods, Refusal>
     ensures { result ≡ field_answer (ended length r) }
 {
-    let state = r.state;
-    if may_end(state) {
-        return FieldRead::Named(NamedMethods {
+    if may_end(r.state) {
+        Ok(NamedMethods {
             dkim: r.dkim,
             spf: r.spf,
-        });
+        })
+    } else {
+        refuse(24, length)
     }
-    refuse(24, length)
 }
 
 // The methods that a field names, or why a text is no field.
-pub fn read_field(text: &[u8]) -> FieldRead
+pub fn read_field(text: &[u8]) -> Result<NamedMethods, Refusal>
     ensures { result ≡ field_read text.now }
 {
     let mut r = Reader {
@@ -71,24 +64,15 @@ pub fn read_field(text: &[u8]) -> FieldRead
         dkim: false,
         spf: false,
     };
-    let mut at = 0;
-    while at < text.len() {
-        let turn = take_turn(r, text[at]);
-        match turn {
-            Turn::On(q) => {
-                r = q;
+    for (at, x) in text.iter().enumerate() {
+        match take_turn(r, *x) {
+            Ok(next) => {
+                r = next;
             }
-            Turn::Wrong => {
-                return refuse(24, at);
-            }
-            Turn::TooDeep => {
-                return refuse(25, at);
-            }
-            Turn::Again(size) => {
-                return refuse(26, begin_of(at + 1, size));
-            }
+            Err(Misread::Wrong) => return refuse(24, at),
+            Err(Misread::TooDeep) => return refuse(25, at),
+            Err(Misread::Again(size)) => return refuse(26, (at + 1).saturating_sub(size)),
         }
-        at = at + 1;
     }
-    read_end(r, at)
+    read_end(r, text.len())
 }

@@ -4,7 +4,7 @@ use mathlib.Core.Logic.{◌⊎◌, inl, inr}
 use mathlib.Core.Bool.{true, false}
 use Prim.Native.Nat.{ℕ}
 use native.Mathlib.Omega.{arith}
-use Rattle.grammar.specs.Grammar.{Grammar, none, empty, ◌then◌, ◌or◌, many}
+use Rattle.grammar.specs.Grammar.{Grammar, empty, ◌then◌, ◌or◌, many}
 use Rattle.grammar.specs.code.Finding.{has_empty}
 use Rattle.grammar.proofs.SameLaws.{Same, same_refl, same_sym, ◌⨾◌, or_same, assoc, then_or, On, Dead, on_from, on_to, on_then, on_both, on_or, dead_empty, on_range, dead_range, on_one, on_again, on_first, on_second, on_left, on_right, dead_then, dead_many}
 use Rattle.field.specs.Field.{optional, one_or_more, one, WSP, CRLF, FWS}

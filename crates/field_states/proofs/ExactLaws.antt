@@ -3,13 +3,12 @@ use mathlib.Core.Path.{◌≡◌, refl, sym, ap, ◌∙◌}
 use mathlib.Core.List.{[], ◌∷◌}
 use mathlib.Core.Logic.{◌⊎◌, inl, inr}
 use mathlib.Core.Bool.{Bool, true, false, ◌&&◌, false≢true, true≢false}
-use mathlib.Core.Option.{Option, none as nothing, some as just}
 use Prim.Native.Nat.{ℕ, suc, ◌≤◌, ◌<◌}
 use native.Mathlib.Omega.{arith}
 use lib.Dec.{leb}
 use lib.ListN.{drop}
 use borrow.Author.Tests.{leb-true, leb-false}
-use Rattle.std.specs.Prelude.{if◌then◌else◌}
+use Rattle.std.specs.Prelude.{if◌then◌else◌, Option, None, Some}
 use Rattle.octets.specs.Octets.{Octets, octets, is_nothing}
 use Rattle.octets.specs.Refusing.{OrRefused, ok, not_ok, refusal}
 use Rattle.grammar.specs.Grammar.{Grammar, none, empty, ◌then◌, ◌or◌, Text}
@@ -153,11 +152,11 @@ module _ (D S : Bool) where
   at_end at r = rw (empty_rest 8 (exacts 8 D S) (exacts_lawful 8 D S) r.state r.dkim r.spf) (go (ends r.state) refl)
     where
       go : (b : Bool) → ends r.state ≡ b
-          → is_nothing {A = ℕ} (if b && has_empty (exact_end 8 (same_flag D r.dkim && same_flag S r.spf)) then nothing else just at) ≡ is_answer D S (if b then ok (record { dkim = r.dkim; spf = r.spf }) else not_ok (refusal 24 at))
+          → is_nothing {A = ℕ} (if b && has_empty (exact_end 8 (same_flag D r.dkim && same_flag S r.spf)) then None else Some at) ≡ is_answer D S (if b then ok (record { dkim = r.dkim; spf = r.spf }) else not_ok (refusal 24 at))
       go true e = flags (same_flag D r.dkim && same_flag S r.spf) refl
         where
           flags : (c : Bool) → (same_flag D r.dkim && same_flag S r.spf) ≡ c
-              → is_nothing {A = ℕ} (if has_empty (exact_end 8 (same_flag D r.dkim && same_flag S r.spf)) then nothing else just at) ≡ is_answer D S (ok (record { dkim = r.dkim; spf = r.spf }))
+              → is_nothing {A = ℕ} (if has_empty (exact_end 8 (same_flag D r.dkim && same_flag S r.spf)) then None else Some at) ≡ is_answer D S (ok (record { dkim = r.dkim; spf = r.spf }))
           flags true f = unfold is_answer in rw f (unfold exact_end has_empty is_nothing in refl)
           flags false f = unfold is_answer in rw f (unfold exact_end has_empty is_nothing in refl)
       go false e = unfold is_answer is_nothing in refl
@@ -282,10 +281,10 @@ answer_is d s (ok m) e = ap ok (go (same_flag d m.dkim) refl (same_flag s m.spf)
     go false f b g = absurd (false≢true (rw f at e))
 answer_is d s (not_ok r) e = absurd (false≢true e)
 
-nothing_is : (o : Option ℕ) → is_nothing o ≡ true → o ≡ nothing
+nothing_is : (o : Option ℕ) → is_nothing o ≡ true → o ≡ None
 unfolding is_nothing
-nothing_is nothing e = refl
-nothing_is (just p) e = absurd (false≢true e)
+nothing_is None e = refl
+nothing_is (Some p) e = absurd (false≢true e)
 
 found_is : (text : Octets) (d s : Bool) → is_nothing (fault (field_naming 8 d s) text) ≡ is_answer d s (read_field text)
 unfolding fault fits start reader depth_of
@@ -306,5 +305,5 @@ exactly text d s = (to, from)
     from : Text (field_naming 8 d s) text → read_field text ≡ ok (record { dkim = d; spf = s })
     from t = answer_is d s (read_field text) (sym (found_is text d s) ∙ found ((faults g text).none t))
       where
-        found : fault g text ≡ nothing → is_nothing (fault g text) ≡ true
+        found : fault g text ≡ None → is_nothing (fault g text) ≡ true
         found e = ap is_nothing e ∙ (unfold is_nothing in refl)

@@ -20,7 +20,7 @@ use Rattle.field_states.specs.declared.Side.{Side}
 use Rattle.field_states.specs.declared.Blanks.{Blanks}
 use Rattle.field_states.specs.declared.State.{State}
 use Rattle.field_states.specs.declared.Spelled.{Spelled}
-use Rattle.field_states.specs.code.States.{word_text, spelled, reader, wrong, behind, spelling_step, after_blank, after_cr, after_lf, closes, inside_comment, outside_comment, token, escaped, after_other, between_step, step_from, step, is_open, opens, depth_of, is_shut, is_wrong, read_before, is_spelled, again, is_ended, ends}
+use Rattle.field_states.specs.code.States.{word_text, spelled, reader, wrong, behind, spelling_step, after_blank, after_cr, after_lf, closes, inside_comment, outside_comment, token, escaped, after_other, between_step, step_from, is_open, opens, depth_of, is_shut, is_wrong, read_before, is_spelled, again, is_ended, ends}
 use Rattle.field_states.proofs.BlankLaws.{blanks}
 use Rattle.field_states.proofs.LevelLaws.{items, ahead, content, level, next, quotable, comment_not_empty, content_not_empty}
 use Rattle.field_states.proofs.WordLaws.{left_of, letter_not_empty, Spells, wrong as misspelled, further, whole, spells_at, drop_next}

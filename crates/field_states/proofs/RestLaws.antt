@@ -14,14 +14,14 @@ use Rattle.octets.specs.Octets.{octets, any, one_of, between, lower_octet, is_bl
 use Rattle.grammar.specs.Grammar.{Grammar, none, empty, ◌then◌, ◌or◌, many}
 use Rattle.grammar.specs.code.Finding.{has_empty}
 use Rattle.grammar.proofs.SameLaws.{Same, same_refl, same_sym, then_none, On, Dead, on_from, on_to, dead_none, dead_empty, on_range, dead_range, on_one, on_left, on_right, dead_then}
-use Rattle.field.specs.Field.{optional, one_or_more, one, letter, literal, WSP, FWS, comment}
+use Rattle.field.specs.Field.{optional, one_or_more, one, WSP, FWS}
 use Rattle.field_states.specs.declared.Word.{Word}
 use Rattle.field_states.specs.declared.Side.{Side}
 use Rattle.field_states.specs.declared.Blanks.{Blanks}
 use Rattle.field_states.specs.declared.State.{State}
 use Rattle.field_states.specs.declared.Reader.{Reader}
 use Rattle.field_states.specs.declared.Spelled.{Spelled}
-use Rattle.field_states.specs.code.States.{word_text, spelled, reader, wrong, behind, spelling_step, after_blank, after_cr, after_lf, closes, inside_comment, outside_comment, token, escaped, after_other, between_step, step_from, step, is_open, opens, depth_of, read_before, is_spelled, again}
+use Rattle.field_states.specs.code.States.{word_text, spelled, reader, wrong, behind, spelling_step, after_blank, after_cr, after_lf, closes, inside_comment, outside_comment, token, escaped, after_other, between_step, step_from, is_open, opens, depth_of, read_before, is_spelled, again}
 use Rattle.field_states.proofs.BlankLaws.{on_it, not_it, not_empty_one, IsBlank, Other, on_blank, dead_blank, blanks, blanks_gap, optional_gap, Next, gap_blank, gap_cr, gap_other, cr_lf, cr_dead, line_on, line_shut, folded_on, folded_other}
 use Rattle.field_states.proofs.LevelLaws.{level, next, level_next, quotable, next_open, next_too_deep, next_out, next_close, next_quote, next_plain, next_dead}
 use Rattle.field_states.proofs.WordLaws.{within, not_within, left_of, Spells, wrong as misspelled, further, whole, spells_at, other_letter, first_letter, is_not_within, drop_next}

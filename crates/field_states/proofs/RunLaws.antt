@@ -2,28 +2,28 @@
 use mathlib.Core.Path.{◌≡◌, refl, sym, ap, ◌∙◌}
 use mathlib.Core.List.{[], ◌∷◌}
 use mathlib.Core.Bool.{Bool, true, false, ◌&&◌, false≢true, true≢false}
-use mathlib.Core.Option.{Option, none as nothing, some as just}
 use Prim.Native.Nat.{ℕ, suc, ◌+◌, ◌-◌, ◌≤◌, ◌<◌}
 use native.Mathlib.Omega.{arith}
 use native.Mathlib.Numerals.{add-one}
 use lib.Dec.{leb}
 use lib.ListN.{length, take, drop, length-take}
 use borrow.Author.Tests.{leb-true, leb-false}
-use Rattle.std.specs.Prelude.{if◌then◌else◌}
+use Rattle.std.specs.Prelude.{if◌then◌else◌, Option, None, Some}
 use Rattle.octets.specs.Octets.{Octets, octets, is_nothing}
 use Rattle.octets.specs.Refusing.{OrRefused, not_ok, refusal}
-use Rattle.grammar.specs.Grammar.{Grammar, none, empty, ◌or◌}
+use Rattle.grammar.specs.Grammar.{Grammar, none, empty}
 use Rattle.grammar.specs.code.Finding.{has_empty, has_text, fault_from, fault, shortest_text_from, shortest_text}
 use Rattle.grammar.proofs.Claimed.{fault_least, first_is, first_now}
 use Rattle.grammar.proofs.SameLaws.{On, fault_same, first_same, fault_goes_on, fault_stops, first_goes_on, whole_goes_on, first_of_none}
 use Rattle.field.specs.declared.NamedMethods.{NamedMethods}
-use Rattle.field.specs.Field.{dkim, spf, any_depth}
+use Rattle.field.specs.Field.{any_depth}
 use Rattle.field.specs.code.Reading.{read_field}
 use Rattle.field_states.specs.declared.Word.{Word}
 use Rattle.field_states.specs.declared.State.{State}
 use Rattle.field_states.specs.declared.Reader.{Reader}
-use Rattle.field_states.specs.declared.Turn.{Turn}
-use Rattle.field_states.specs.code.States.{word_text, spelled, reader, step_from, step, opens, depth_of, ninth, is_wrong, read_before, is_spelled, again, word_size, turn, ends, ended, run_reader, start}
+use Rattle.field_states.specs.declared.Misread.{Misread}
+use Rattle.std.specs.Prelude.{Ok, Err}
+use Rattle.field_states.specs.code.States.{word_text, spelled, reader, step_from, step, opens, depth_of, ninth, is_wrong, read_before, is_spelled, again, word_size, turn, ends, ended, misread, run_reader, start}
 use Rattle.field_states.proofs.RestLaws.{Tails, Lawful, rest, ending, step_on, deep_on, whole_on}
 use Rattle.field_states.proofs.TailLaws.{fields, fields_lawful, field_starts, the, seen, namings, namings_lawful, naming_starts, naming_end, repeatings, repeatings_lawful, repeating_starts, repeats}
 use Rattle.field_states.proofs.LiveLaws.{empty_rest, wrong_rest, has_ending, has_rest, begun_step, depth_step, again_right, opens_right, Long, size, long_rest, long_behind}
@@ -31,10 +31,10 @@ use Rattle.field_states.proofs.JudgeLaws.{judged, judged_ok, judged_24, judged_2
 
 -- ------------------------------------------------------------------ places found later
 
-first_least : (at : ℕ) (g : Grammar) (s : Octets) (p : ℕ) → shortest_text_from at g s ≡ just p → at ≤ p
+first_least : (at : ℕ) (g : Grammar) (s : Octets) (p : ℕ) → shortest_text_from at g s ≡ Some p → at ≤ p
 first_least at g s p e = let (m, i, h) = first_is at g s p e in omega (arith, i)
 
-first_long : (k at : ℕ) (g : Grammar) (s : Octets) (p : ℕ) → Long k g → shortest_text_from at g s ≡ just p → at + k ≤ p
+first_long : (k at : ℕ) (g : Grammar) (s : Octets) (p : ℕ) → Long k g → shortest_text_from at g s ≡ Some p → at + k ≤ p
 first_long k at g s p l e =
     let (m, i, h) = first_is at g s p e in
     let j = l (take m s) h.is in
@@ -47,37 +47,37 @@ both false b e = absurd (false≢true e)
 -- ------------------------------------------------------------------ a turn
 
 module _ (r : Reader) (x : ℕ) where
-  pub turn_deep : ninth r.state x ≡ true → turn r x ≡ Turn.TooDeep
+  pub turn_deep : ninth r.state x ≡ true → turn r x ≡ Err Misread.TooDeep
   unfolding turn
   turn_deep e = rw e
 
-  pub turn_wrong : ninth r.state x ≡ false → is_wrong (step r x).state ≡ true → turn r x ≡ Turn.Wrong
+  pub turn_wrong : ninth r.state x ≡ false → is_wrong (step r x).state ≡ true → turn r x ≡ Err Misread.Wrong
   unfolding turn
   turn_wrong e f = rw (e, f)
 
-  pub turn_again : ninth r.state x ≡ false → is_wrong (step r x).state ≡ false → again r.state r.dkim r.spf x ≡ true → turn r x ≡ Turn.Again (word_size r.state)
+  pub turn_again : ninth r.state x ≡ false → is_wrong (step r x).state ≡ false → again r.state r.dkim r.spf x ≡ true → turn r x ≡ Err (Misread.Again (word_size r.state))
   unfolding turn
   turn_again e f g = rw (e, f, g)
 
-  pub turn_on : ninth r.state x ≡ false → is_wrong (step r x).state ≡ false → again r.state r.dkim r.spf x ≡ false → turn r x ≡ Turn.On (step r x)
+  pub turn_on : ninth r.state x ≡ false → is_wrong (step r x).state ≡ false → again r.state r.dkim r.spf x ≡ false → turn r x ≡ Ok (step r x)
   unfolding turn
   turn_on e f g = rw (e, f, g)
 
   module _ (at : ℕ) (s : Octets) where
-    pub run_on : (q : Reader) → turn r x ≡ Turn.On q → run_reader at r (x ∷ s) ≡ run_reader (suc at) q s
+    pub run_on : (q : Reader) → turn r x ≡ Ok q → run_reader at r (x ∷ s) ≡ run_reader (suc at) q s
     unfolding run_reader
     run_on q h = rw (h, run_reader)
 
-    pub run_wrong : turn r x ≡ Turn.Wrong → run_reader at r (x ∷ s) ≡ not_ok (refusal 24 at)
-    unfolding run_reader
+    pub run_wrong : turn r x ≡ Err Misread.Wrong → run_reader at r (x ∷ s) ≡ not_ok (refusal 24 at)
+    unfolding run_reader misread
     run_wrong h = rw (h, run_reader)
 
-    pub run_deep : turn r x ≡ Turn.TooDeep → run_reader at r (x ∷ s) ≡ not_ok (refusal 25 at)
-    unfolding run_reader
+    pub run_deep : turn r x ≡ Err Misread.TooDeep → run_reader at r (x ∷ s) ≡ not_ok (refusal 25 at)
+    unfolding run_reader misread
     run_deep h = rw (h, run_reader)
 
-    pub run_again : (n : ℕ) → turn r x ≡ Turn.Again n → run_reader at r (x ∷ s) ≡ not_ok (refusal 26 (at + 1 - n))
-    unfolding run_reader
+    pub run_again : (n : ℕ) → turn r x ≡ Err (Misread.Again n) → run_reader at r (x ∷ s) ≡ not_ok (refusal 26 (at + 1 - n))
+    unfolding run_reader misread
     run_again n h = rw (h, run_reader)
 
 -- ------------------------------------------------------------------ what is left
@@ -91,19 +91,19 @@ module _ (n : ℕ) where
       (is_nothing (fault_from at (rest 8 (namings 8 true) r) s)) (is_nothing (fault_from at (rest 8 (namings 8 false) r) s))
 
   -- at the end of the text
-  no_first : (m : Bool) (at : ℕ) (r : Reader) → shortest_text_from at (rest n (repeatings n m) r) [] ≡ nothing
+  no_first : (m : Bool) (at : ℕ) (r : Reader) → shortest_text_from at (rest n (repeatings n m) r) [] ≡ None
   unfolding shortest_text_from rest
   no_first m at r = rw (empty_rest n (repeatings n m) (repeatings_lawful n m) r.state r.dkim r.spf) (go (ends r.state))
     where
-      go : (b : Bool) → ◌≡◌ {A = Option ℕ} (if b && has_empty none then just at else nothing) nothing
+      go : (b : Bool) → ◌≡◌ {A = Option ℕ} (if b && has_empty none then Some at else None) None
       go true = unfold has_empty in refl
       go false = refl
 
-  fields_end : (k at : ℕ) (r : Reader) → fault_from at (rest k (fields k) r) [] ≡ (if ends r.state then nothing else just at)
+  fields_end : (k at : ℕ) (r : Reader) → fault_from at (rest k (fields k) r) [] ≡ (if ends r.state then None else Some at)
   unfolding fault_from rest
   fields_end k at r = rw (empty_rest k (fields k) (fields_lawful k) r.state r.dkim r.spf) (go (ends r.state))
     where
-      go : (b : Bool) → ◌≡◌ {A = Option ℕ} (if b && has_empty empty then nothing else just at) (if b then nothing else just at)
+      go : (b : Bool) → ◌≡◌ {A = Option ℕ} (if b && has_empty empty then None else Some at) (if b then None else Some at)
       go true = unfold has_empty in refl
       go false = refl
 
@@ -111,7 +111,7 @@ module _ (n : ℕ) where
   unfolding fault_from rest is_nothing
   named_end m at r h = rw (empty_rest 8 (namings 8 m) (namings_lawful 8 m) r.state r.dkim r.spf, h) (go (seen 8 m r.dkim r.spf))
     where
-      go : (b : Bool) → is_nothing (if has_empty (naming_end 8 b) then nothing else just at) ≡ b
+      go : (b : Bool) → is_nothing (if has_empty (naming_end 8 b) then None else Some at) ≡ b
       go true = unfold has_empty naming_end in refl
       go false = unfold has_empty naming_end in refl
 
@@ -173,10 +173,10 @@ module _ (n : ℕ) where
         )
 
     -- refusal 24
-    stops : (k : ℕ) → is_wrong (step r x).state ≡ true → (opens r.state x ≡ true → depth_of r.state < k) → fault_from at (rest k (fields k) r) (x ∷ s) ≡ just at
+    stops : (k : ℕ) → is_wrong (step r x).state ≡ true → (opens r.state x ≡ true → depth_of r.state < k) → fault_from at (rest k (fields k) r) (x ∷ s) ≡ Some at
     stops k h i = fault_stops (on_step k (fields k) (fields_lawful k) (no_again h) i) at s (ap has_text (left_nothing k (fields k) h) ∙ unfold has_text in refl)
 
-    no_more : (m : Bool) → is_wrong (step r x).state ≡ true → (opens r.state x ≡ true → depth_of r.state < n) → shortest_text_from at (rest n (repeatings n m) r) (x ∷ s) ≡ nothing
+    no_more : (m : Bool) → is_wrong (step r x).state ≡ true → (opens r.state x ≡ true → depth_of r.state < n) → shortest_text_from at (rest n (repeatings n m) r) (x ∷ s) ≡ None
     no_more m h i =
         first_goes_on (on_step n (repeatings n m) (repeatings_lawful n m) (no_again h) i) at s (not_empty m)
         ∙ ap (λ g. shortest_text_from (suc at) g s) (left_nothing n (repeatings n m) h)
@@ -195,7 +195,7 @@ module _ (n : ℕ) where
         go (State.Spelling w k) e = absurd (false≢true e)
         go (State.Between side b k) e = refl
 
-    deeper : opens r.state x ≡ true → depth_of r.state < n → (q : ℕ) → fault_from at (rest n (fields n) r) (x ∷ s) ≡ just q → at < q
+    deeper : opens r.state x ≡ true → depth_of r.state < n → (q : ℕ) → fault_from at (rest n (fields n) r) (x ∷ s) ≡ Some q → at < q
     unfolding step
     deeper h i q e =
         fault_least (suc at) (rest n (fields n) (step r x)) s q
@@ -218,7 +218,7 @@ module _ (n : ℕ) where
     unfolding rest here reader
     on_whole m t l = whole_on m t l x w k d p h
 
-    not_yet : (m : ℕ) (q : ℕ) → fault_from at (rest m (fields m) here) (x ∷ s) ≡ just q → suc at ≤ q
+    not_yet : (m : ℕ) (q : ℕ) → fault_from at (rest m (fields m) here) (x ∷ s) ≡ Some q → suc at ≤ q
     not_yet m q e = fault_least (suc at) (ending m (fields m) w d p) s q (sym (fault_goes_on (on_whole m (fields m) (fields_lawful m)) at s (has_ending m w d p)) ∙ e)
 
     firsts_on : (m : Bool) → shortest_text_from at (rest n (repeatings n m) here) (x ∷ s) ≡ shortest_text_from (suc at) (ending n (repeatings n m) w d p) s

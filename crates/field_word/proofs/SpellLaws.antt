@@ -6,14 +6,23 @@ use native.Mathlib.Omega.{arith}
 use lib.ListN.{length, drop, get_or, drop_of_length-le}
 use lib.Seq.{drop-cons}
 use borrow.Author.Tests.{eq-eqb, ne_eqb}
-use Rattle.std.specs.Prelude.{if◌then◌else◌}
-use Rattle.octets.specs.Octets.{Octets, octets, lower_octet}
+use mathlib.Core.List.{[], ◌∷◌}
+use Rattle.octets.specs.Octets.{Octets, octets, lower_octet, lower}
+use Rattle.octets.proofs.TextLaws.{lowered}
 use Rattle.field_states.specs.declared.Word.{Word}
 use Rattle.field_states.specs.declared.State.{State}
 use Rattle.field_states.specs.declared.Spelled.{Spelled}
-use Rattle.field_states.specs.declared.Turn.{Turn}
+use Rattle.field_states.specs.declared.Misread.{Misread}
+use Rattle.std.specs.Prelude.{Result, Ok, Err, Some, None, if◌then◌else◌}
+use Rattle.std.specs.Char.{to_ascii_lowercase}
+use Rattle.field_states.specs.declared.Reader.{Reader}
 use Rattle.field_states.specs.code.States.{word_text, spelled, reader, wrong, behind, spelling_step, step_from, step, opens, ninth, is_shut, is_wrong, read_before, is_spelled, again, word_size, turn}
 use Rattle.field_word.specs.code.Repeated.{repeated_size}
+
+-- an octet in lower case, as the library makes it
+pub lowered_octet : (x : ℕ) → to_ascii_lowercase x ≡ lower_octet x
+unfolding lower
+lowered_octet x = ap (λ (l : Octets). get_or l 0 0) (lowered (x ∷ []))
 
 module _ (t : Octets) (k x : ℕ) where
   pub spell_over : length t ≤ k → spelled (drop k t) x ≡ Spelled.Wrong
@@ -58,11 +67,11 @@ further_less w k x e = omega (arith, no_further k (word_text w) x e, word_length
 -- ------------------------------------------------------------------ a turn within a word
 
 module _ (w : Word) (k : ℕ) (d s : Bool) (x : ℕ) where
-  pub turn_misspelled : spelled (drop k (word_text w)) x ≡ Spelled.Wrong → turn (reader (State.Spelling w k) d s) x ≡ Turn.Wrong
+  pub turn_misspelled : spelled (drop k (word_text w)) x ≡ Spelled.Wrong → turn (reader (State.Spelling w k) d s) x ≡ Err Misread.Wrong
   unfolding turn ninth opens reader step step_from spelling_step wrong is_wrong is_shut
   turn_misspelled e = rw e
 
-  pub turn_further : spelled (drop k (word_text w)) x ≡ Spelled.Further → turn (reader (State.Spelling w k) d s) x ≡ Turn.On (reader (State.Spelling w (k + 1)) d s)
+  pub turn_further : spelled (drop k (word_text w)) x ≡ Spelled.Further → turn (reader (State.Spelling w k) d s) x ≡ Ok (reader (State.Spelling w (k + 1)) d s)
   unfolding turn ninth opens reader step step_from spelling_step is_wrong again is_spelled
   turn_further e = rw e
 
@@ -73,44 +82,48 @@ behind_right Word.None d s = refl
 behind_right Word.Dkim d s = refl
 behind_right Word.Spf d s = refl
 
-if_again : (b : Bool) (n : ℕ) (t : Turn) → b ≡ true → (if b then Turn.Again n else t) ≡ Turn.Again n
+if_again : (b : Bool) (n : ℕ) (t : Result Reader Misread) → b ≡ true → (if b then Err (Misread.Again n) else t) ≡ Err (Misread.Again n)
 if_again b n t e = rw e
 
-if_on : (b : Bool) (n : ℕ) (t : Turn) → b ≡ false → (if b then Turn.Again n else t) ≡ t
+if_on : (b : Bool) (n : ℕ) (t : Result Reader Misread) → b ≡ false → (if b then Err (Misread.Again n) else t) ≡ t
 if_on b n t e = rw e
 
 whole_turn : (w : Word) (k : ℕ) (d s : Bool) (x : ℕ) → spelled (drop k (word_text w)) x ≡ Spelled.Whole
-    → turn (reader (State.Spelling w k) d s) x ≡ (if read_before w d s then Turn.Again (length (word_text w)) else Turn.On (behind w d s))
+    → turn (reader (State.Spelling w k) d s) x ≡ (if read_before w d s then Err (Misread.Again (length (word_text w))) else Ok (behind w d s))
 unfolding turn ninth opens reader step step_from spelling_step again is_spelled word_size
 whole_turn w k d s x e = rw (e, behind_right w d s)
 
-not_zero : (d : Bool) (n : ℕ) → ((if d then n else 0) ≡ 0 → ⊥) → d ≡ true
-not_zero true n h = refl
-not_zero false n h = absurd (h refl)
+refused : ℕ → Result Reader Misread
+refused n = Err (Misread.Again n)
 
-zero_then : (d : Bool) (n : ℕ) → (if d then suc n else 0) ≡ 0 → d ≡ false
-zero_then true n h = absurd (omega (arith, h))
-zero_then false n h = refl
+given : (d : Bool) (n m : ℕ) → (if d then Some n else None) ≡ Some m → (d ≡ true) × (n ≡ m)
+given true n m e = (refl, cc)
+given false n m e = absurd (cc)
 
-repeated_by : (w : Word) (d s : Bool) → (repeated_size w d s ≡ 0 → ⊥) → (read_before w d s ≡ true) × (repeated_size w d s ≡ length (word_text w))
+not_given : (d : Bool) (n : ℕ) → (if d then Some n else None) ≡ None → d ≡ false
+not_given true n e = absurd (cc)
+not_given false n e = refl
+
+repeated_by : (w : Word) (d s : Bool) (m : ℕ) → repeated_size w d s ≡ Some m → (read_before w d s ≡ true) × (length (word_text w) ≡ m)
 unfolding repeated_size read_before word_text octets
-repeated_by Word.Name d s h = absurd (h refl)
-repeated_by Word.None d s h = absurd (h refl)
-repeated_by Word.Dkim d s h = let e = not_zero d 4 h in (e, rw e)
-repeated_by Word.Spf d s h = let e = not_zero s 3 h in (e, rw e)
+repeated_by Word.Name d s m e = absurd (cc)
+repeated_by Word.None d s m e = absurd (cc)
+repeated_by Word.Dkim d s m e = given d 4 m e
+repeated_by Word.Spf d s m e = given s 3 m e
 
-fresh_by : (w : Word) (d s : Bool) → repeated_size w d s ≡ 0 → read_before w d s ≡ false
+fresh_by : (w : Word) (d s : Bool) → repeated_size w d s ≡ None → read_before w d s ≡ false
 unfolding repeated_size read_before
-fresh_by Word.Name d s h = refl
-fresh_by Word.None d s h = refl
-fresh_by Word.Dkim d s h = zero_then d 3 h
-fresh_by Word.Spf d s h = zero_then s 2 h
+fresh_by Word.Name d s e = refl
+fresh_by Word.None d s e = refl
+fresh_by Word.Dkim d s e = not_given d 4 e
+fresh_by Word.Spf d s e = not_given s 3 e
 
 module _ (w : Word) (k : ℕ) (d s : Bool) (x : ℕ) (e : spelled (drop k (word_text w)) x ≡ Spelled.Whole) where
-  pub turn_repeated : (repeated_size w d s ≡ 0 → ⊥) → turn (reader (State.Spelling w k) d s) x ≡ Turn.Again (repeated_size w d s)
-  turn_repeated h =
-      let (a, b) = repeated_by w d s h in
-      whole_turn w k d s x e ∙ if_again (read_before w d s) (length (word_text w)) (Turn.On (behind w d s)) a ∙ ap Turn.Again (sym b)
+  pub turn_repeated : (m : ℕ) → repeated_size w d s ≡ Some m → turn (reader (State.Spelling w k) d s) x ≡ Err (Misread.Again m)
+  unfolding refused
+  turn_repeated m h =
+      let (a, b) = repeated_by w d s m h in
+      whole_turn w k d s x e ∙ if_again (read_before w d s) (length (word_text w)) (Ok (behind w d s)) a ∙ ap refused b
 
-  pub turn_whole : repeated_size w d s ≡ 0 → turn (reader (State.Spelling w k) d s) x ≡ Turn.On (behind w d s)
-  turn_whole h = whole_turn w k d s x e ∙ if_on (read_before w d s) (length (word_text w)) (Turn.On (behind w d s)) (fresh_by w d s h)
+  pub turn_whole : repeated_size w d s ≡ None → turn (reader (State.Spelling w k) d s) x ≡ Ok (behind w d s)
+  turn_whole h = whole_turn w k d s x e ∙ if_on (read_before w d s) (length (word_text w)) (Ok (behind w d s)) (fresh_by w d s h)

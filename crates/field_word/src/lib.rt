@@ -2,39 +2,26 @@
 #![tactic(auto)]
 
 ghost use Rattle.std.specs.Prelude.{◌≡◌, drop};
-ghost use Rattle.octets.specs.Octets.{lower_octet};
 ghost use Rattle.field_states.specs.code.States.{word_text, spelled, behind, reader, turn};
 ghost use Rattle.field_word.specs.code.Repeated.{repeated_size};
 
-use field_states::{Blanks, Reader, Side, Spelled, State, Turn, Word};
-
-// An octet in lower case.
-pub fn lower_octet(x: u8) -> u8
-    ensures { result ≡ lower_octet x }
-{
-    if text_class::is_between(x, b'A', b'Z') {
-        return x + 32;
-    }
-    x
-}
+use field_states::{Blanks, Misread, Reader, Side, Spelled, State, Word};
 
 // What an octet makes of a word, of which `k` octets are read.
 fn spell(word: &[u8], k: usize, x: u8) -> Spelled
     ensures { result ≡ spelled (drop k word.now) x }
 {
-    if word.len() <= k {
-        return Spelled::Wrong;
+    if word.len() <= k || x.to_ascii_lowercase() != word[k] {
+        Spelled::Wrong
+    } else if k + 1 < word.len() {
+        Spelled::Further
+    } else {
+        Spelled::Whole
     }
-    if lower_octet(x) != word[k] {
-        return Spelled::Wrong;
-    }
-    if k + 1 < word.len() {
-        return Spelled::Further;
-    }
-    Spelled::Whole
 }
 
 // The same, of a word by its name.
+#[tactic(auto, unfolding(field_states::specs::code::States::word_text, octets::specs::Octets::octets))]
 fn spell_word(w: Word, k: usize, x: u8) -> Spelled
     ensures { result ≡ spelled (drop k (word_text w)) x }
 {
@@ -47,74 +34,62 @@ fn spell_word(w: Word, k: usize, x: u8) -> Spelled
 }
 
 // Behind a whole word.
+#[tactic(auto, unfolding(field_states::specs::code::States::behind, field_states::specs::code::States::reader))]
 fn read_behind(w: Word, dkim: bool, spf: bool) -> Reader
     ensures { result ≡ behind w dkim spf }
 {
+    let before = State::Between(Side::Before, Blanks::Fresh, 0);
+    let after = State::Between(Side::After, Blanks::Fresh, 0);
     match w {
         Word::Name => Reader {
-            state: State::Between(Side::Before, Blanks::Fresh, 0),
+            state: before,
             dkim,
             spf,
         },
         Word::None => Reader {
-            state: State::Between(Side::After, Blanks::Fresh, 0),
+            state: after,
             dkim,
             spf,
         },
         Word::Dkim => Reader {
-            state: State::Between(Side::After, Blanks::Fresh, 0),
+            state: after,
             dkim: true,
             spf,
         },
         Word::Spf => Reader {
-            state: State::Between(Side::After, Blanks::Fresh, 0),
+            state: after,
             dkim,
             spf: true,
         },
     }
 }
 
-// The octets of a method that was read before; 0 for any other word.
-fn repeated_size(w: Word, dkim: bool, spf: bool) -> usize
+// The octets of a method that was read before.
+#[tactic(auto, unfolding(crate::specs::code::Repeated::repeated_size))]
+fn repeated_size(w: Word, dkim: bool, spf: bool) -> Option<usize>
     ensures { result ≡ repeated_size w dkim spf }
 {
     match w {
-        Word::Name => 0,
-        Word::None => 0,
-        Word::Dkim => {
-            if dkim {
-                return 4;
-            }
-            0
-        }
-        Word::Spf => {
-            if spf {
-                return 3;
-            }
-            0
-        }
+        Word::Dkim if dkim => Some(4),
+        Word::Spf if spf => Some(3),
+        _ => None,
     }
 }
 
-// An octet within a word.
-pub fn turn_in_word(w: Word, k: usize, dkim: bool, spf: bool, x: u8) -> Turn
+// The reader behind an octet within a word, or why the octet is refused.
+pub fn turn_in_word(w: Word, k: usize, dkim: bool, spf: bool, x: u8) -> Result<Reader, Misread>
     ensures { result ≡ turn (reader (State.Spelling w k) dkim spf) x }
 {
-    let spelled = spell_word(w, k, x);
-    match spelled {
-        Spelled::Wrong => Turn::Wrong,
-        Spelled::Further => Turn::On(Reader {
+    match spell_word(w, k, x) {
+        Spelled::Wrong => Err(Misread::Wrong),
+        Spelled::Further => Ok(Reader {
             state: State::Spelling(w, k + 1),
             dkim,
             spf,
         }),
-        Spelled::Whole => {
-            let size = repeated_size(w, dkim, spf);
-            if size != 0 {
-                return Turn::Again(size);
-            }
-            let behind = read_behind(w, dkim, spf);
-            Turn::On(behind)
-        }
+        Spelled::Whole => match repeated_size(w, dkim, spf) {
+            Some(size) => Err(Misread::Again(size)),
+            None => Ok(read_behind(w, dkim, spf)),
+        },
     }
 }

@@ -1,9 +1,9 @@
 -- The proofs of what is claimed of every grammar.
+use Rattle.std.specs.Prelude.{None, Some}
 use mathlib.Core.Path.{◌≡◌, refl, sym, ap, ◌∙◌, subst}
 use mathlib.Core.List.{[], ◌∷◌, ◌++◌}
 use mathlib.Core.Logic.{inl, inr}
 use mathlib.Core.Bool.{Bool, true, false, false≢true}
-use mathlib.Core.Option.{none as nothing, some as just, none-ne-some, some-injective}
 use Prim.Native.Nat.{ℕ, zero, suc, ◌+◌, ◌≤◌, ◌<◌}
 use native.Mathlib.Omega.{arith}
 use native.Mathlib.Nat.{not-suc-le-zero, le_of_suc-le-suc}
@@ -14,12 +14,13 @@ use Rattle.grammar.specs.code.Finding.{has_empty, has_text, following, fault_fro
 use Rattle.grammar.specs.code.Finding.{Faults, ShortestFound}
 use Rattle.grammar.specs.Grammar.{Fault}
 use Rattle.grammar.proofs.GrammarLaws.{empty_sound, empty_complete, some_sound, some_complete, following_sound, following_complete}
+use Rattle.std.proofs.lemmas.Option.{none-some, same_Some}
 
-none≢just : {A : Type 0} {a : A} → nothing ≡ just a → ⊥
-none≢just {A} {a} e = none-ne-some a e
+none≢just : {A : Type 0} {a : A} → None ≡ Some a → ⊥
+none≢just {A} {a} e = none-some a e
 
-just_injective : {a b : ℕ} → just a ≡ just b → a ≡ b
-just_injective {a} {b} e = some-injective a b e
+just_injective : {a b : ℕ} → Some a ≡ Some b → a ≡ b
+just_injective {a} {b} e = same_Some a b e
 
 -- ------------------------------------------------------------------ one octet
 
@@ -27,27 +28,27 @@ fault_on : (at : ℕ) (g : Grammar) (x : ℕ) (s : Octets) → has_text (followi
 unfolding fault_from
 fault_on at g x s e = rw (e, fault_from)
 
-fault_here : (at : ℕ) (g : Grammar) (x : ℕ) (s : Octets) → has_text (following x g) ≡ false → fault_from at g (x ∷ s) ≡ just at
+fault_here : (at : ℕ) (g : Grammar) (x : ℕ) (s : Octets) → has_text (following x g) ≡ false → fault_from at g (x ∷ s) ≡ Some at
 unfolding fault_from
 fault_here at g x s e = rw (e, fault_from)
 
-fault_end : (at : ℕ) (g : Grammar) → has_empty g ≡ true → fault_from at g [] ≡ nothing
+fault_end : (at : ℕ) (g : Grammar) → has_empty g ≡ true → fault_from at g [] ≡ None
 unfolding fault_from
 fault_end at g e = rw (e, fault_from)
 
-fault_early : (at : ℕ) (g : Grammar) → has_empty g ≡ false → fault_from at g [] ≡ just at
+fault_early : (at : ℕ) (g : Grammar) → has_empty g ≡ false → fault_from at g [] ≡ Some at
 unfolding fault_from
 fault_early at g e = rw (e, fault_from)
 
 -- ------------------------------------------------------------------ faults
 
-fault_of_text : (at : ℕ) (g : Grammar) (s : Octets) → Text g s → fault_from at g s ≡ nothing
+fault_of_text : (at : ℕ) (g : Grammar) (s : Octets) → Text g s → fault_from at g s ≡ None
 fault_of_text at g [] t = fault_end at g (empty_complete g t)
 fault_of_text at g (x ∷ s) t =
     let r = following_complete x g s t in
     fault_on at g x s (some_complete (following x g) s r) ∙ fault_of_text (suc at) (following x g) s r
 
-pub text_of_none : (at : ℕ) (g : Grammar) (s : Octets) → fault_from at g s ≡ nothing → Text g s
+pub text_of_none : (at : ℕ) (g : Grammar) (s : Octets) → fault_from at g s ≡ None → Text g s
 text_of_none at g [] e = go (has_empty g) refl
   where
     go : (c : Bool) → has_empty g ≡ c → Text g []
@@ -55,7 +56,7 @@ text_of_none at g [] e = go (has_empty g) refl
     go false f = absurd (none≢just (sym e ∙ fault_early at g f))
 text_of_none at g (x ∷ s) e = go (has_text (following x g)) refl (text_of_none (suc at) (following x g) s)
   where
-    go : (c : Bool) → has_text (following x g) ≡ c → (fault_from (suc at) (following x g) s ≡ nothing → Text (following x g) s) → Text g (x ∷ s)
+    go : (c : Bool) → has_text (following x g) ≡ c → (fault_from (suc at) (following x g) s ≡ None → Text (following x g) s) → Text g (x ∷ s)
     go true f k = following_sound x g s (k (sym (fault_on at g x s f) ∙ e))
     go false f k = absurd (none≢just (sym e ∙ fault_here at g x s f))
 
@@ -69,7 +70,7 @@ later_fault g x s q h = record {
   ];
 }
 
-fault_place : (at : ℕ) (g : Grammar) (s : Octets) → Viable g [] → (p : ℕ) → fault_from at g s ≡ just p → (q : ℕ) × (p ≡ at + q) × Fault g s q
+fault_place : (at : ℕ) (g : Grammar) (s : Octets) → Viable g [] → (p : ℕ) → fault_from at g s ≡ Some p → (q : ℕ) × (p ≡ at + q) × Fault g s q
 fault_place at g [] b p e = go (has_empty g) refl
   where
     go : (c : Bool) → has_empty g ≡ c → (q : ℕ) × (p ≡ at + q) × Fault g [] q
@@ -80,7 +81,7 @@ fault_place at g [] b p e = go (has_empty g) refl
 fault_place at g (x ∷ s) b p e = go (has_text (following x g)) refl (fault_place (suc at) (following x g) s)
   where
     go : (c : Bool) → has_text (following x g) ≡ c
-        → (Viable (following x g) [] → (p : ℕ) → fault_from (suc at) (following x g) s ≡ just p → (q : ℕ) × (p ≡ suc at + q) × Fault (following x g) s q)
+        → (Viable (following x g) [] → (p : ℕ) → fault_from (suc at) (following x g) s ≡ Some p → (q : ℕ) × (p ≡ suc at + q) × Fault (following x g) s q)
         → (q : ℕ) × (p ≡ at + q) × Fault g (x ∷ s) q
     go true f k =
         let (q, i, h) = k (some_sound (following x g) f) p (sym (fault_on at g x s f) ∙ e) in
@@ -90,7 +91,7 @@ fault_place at g (x ∷ s) b p e = go (has_text (following x g)) refl (fault_pla
         (0, omega (arith, i), record { before = b; there = inl (omega arith, λ c. false≢true (sym f ∙ some_complete (following x g) c.0 (following_complete x g c.0 c.1))) })
 
 -- a fault is no sooner than where it is looked for
-pub fault_least : (at : ℕ) (g : Grammar) (s : Octets) (p : ℕ) → fault_from at g s ≡ just p → at ≤ p
+pub fault_least : (at : ℕ) (g : Grammar) (s : Octets) (p : ℕ) → fault_from at g s ≡ Some p → at ≤ p
 fault_least at g [] p e = go (has_empty g) refl
   where
     go : (c : Bool) → has_empty g ≡ c → at ≤ p
@@ -98,7 +99,7 @@ fault_least at g [] p e = go (has_empty g) refl
     go false f = omega (arith, just_injective (sym e ∙ fault_early at g f))
 fault_least at g (x ∷ s) p e = go (has_text (following x g)) refl (fault_least (suc at) (following x g) s p)
   where
-    go : (c : Bool) → has_text (following x g) ≡ c → (fault_from (suc at) (following x g) s ≡ just p → suc at ≤ p) → at ≤ p
+    go : (c : Bool) → has_text (following x g) ≡ c → (fault_from (suc at) (following x g) s ≡ Some p → suc at ≤ p) → at ≤ p
     go true f k = omega (arith, k (sym (fault_on at g x s f) ∙ e))
     go false f k = omega (arith, just_injective (sym e ∙ fault_here at g x s f))
 
@@ -112,7 +113,7 @@ faults g s = record {
 
 -- ------------------------------------------------------------------ the shortest-text front part
 
-pub first_now : (at : ℕ) (g : Grammar) (s : Octets) → has_empty g ≡ true → shortest_text_from at g s ≡ just at
+pub first_now : (at : ℕ) (g : Grammar) (s : Octets) → has_empty g ≡ true → shortest_text_from at g s ≡ Some at
 unfolding shortest_text_from
 first_now at g [] e = rw (e, shortest_text_from)
 first_now at g (x ∷ s) e = rw (e, shortest_text_from)
@@ -121,7 +122,7 @@ first_on : (at : ℕ) (g : Grammar) (x : ℕ) (s : Octets) → has_empty g ≡ f
 unfolding shortest_text_from
 first_on at g x s e = rw (e, shortest_text_from)
 
-first_never : (at : ℕ) (g : Grammar) → has_empty g ≡ false → shortest_text_from at g [] ≡ nothing
+first_never : (at : ℕ) (g : Grammar) → has_empty g ≡ false → shortest_text_from at g [] ≡ None
 unfolding shortest_text_from
 first_never at g e = rw (e, shortest_text_from)
 
@@ -141,7 +142,7 @@ shortest_later g x s n f h = record { within = omega (arith, h.within); is = fol
     before zero i t = false≢true (sym f ∙ empty_complete g t)
     before (suc m) i t = h.not_before m (le_of_suc-le-suc i) (following_complete x g (take m s) t)
 
-pub first_is : (at : ℕ) (g : Grammar) (s : Octets) (p : ℕ) → shortest_text_from at g s ≡ just p → (n : ℕ) × (p ≡ at + n) × Shortest g s n
+pub first_is : (at : ℕ) (g : Grammar) (s : Octets) (p : ℕ) → shortest_text_from at g s ≡ Some p → (n : ℕ) × (p ≡ at + n) × Shortest g s n
 first_is at g [] p e = go (has_empty g) refl
   where
     go : (c : Bool) → has_empty g ≡ c → (n : ℕ) × (p ≡ at + n) × Shortest g [] n
@@ -149,19 +150,19 @@ first_is at g [] p e = go (has_empty g) refl
     go false f = absurd (none≢just (sym (first_never at g f) ∙ e))
 first_is at g (x ∷ s) p e = go (has_empty g) refl (first_is (suc at) (following x g) s p)
   where
-    go : (c : Bool) → has_empty g ≡ c → (shortest_text_from (suc at) (following x g) s ≡ just p → (n : ℕ) × (p ≡ suc at + n) × Shortest (following x g) s n) → (n : ℕ) × (p ≡ at + n) × Shortest g (x ∷ s) n
+    go : (c : Bool) → has_empty g ≡ c → (shortest_text_from (suc at) (following x g) s ≡ Some p → (n : ℕ) × (p ≡ suc at + n) × Shortest (following x g) s n) → (n : ℕ) × (p ≡ at + n) × Shortest g (x ∷ s) n
     go true f k = (0, omega (arith, just_injective (sym e ∙ first_now at g (x ∷ s) f)), shortest_now g (x ∷ s) f)
     go false f k =
         let (n, i, h) = k (sym (first_on at g x s f) ∙ e) in
         (suc n, omega (arith, i), shortest_later g x s n f h)
 
-first_none : (at : ℕ) (g : Grammar) (s : Octets) → shortest_text_from at g s ≡ nothing → (m : ℕ) → m ≤ length s → Text g (take m s) → ⊥
+first_none : (at : ℕ) (g : Grammar) (s : Octets) → shortest_text_from at g s ≡ None → (m : ℕ) → m ≤ length s → Text g (take m s) → ⊥
 first_none at g [] e zero i t = none≢just (sym e ∙ first_now at g [] (empty_complete g t))
 first_none at g [] e (suc m) i t = not-suc-le-zero i
 first_none at g (x ∷ s) e zero i t = none≢just (sym e ∙ first_now at g (x ∷ s) (empty_complete g t))
 first_none at g (x ∷ s) e (suc m) i t = go (has_empty g) refl (λ f. first_none (suc at) (following x g) s f m (le_of_suc-le-suc i))
   where
-    go : (c : Bool) → has_empty g ≡ c → (shortest_text_from (suc at) (following x g) s ≡ nothing → Text (following x g) (take m s) → ⊥) → ⊥
+    go : (c : Bool) → has_empty g ≡ c → (shortest_text_from (suc at) (following x g) s ≡ None → Text (following x g) (take m s) → ⊥) → ⊥
     go true f k = none≢just (sym e ∙ first_now at g (x ∷ s) f)
     go false f k = k (sym (first_on at g x s f) ∙ e) (following_complete x g (take m s) t)
 
@@ -173,5 +174,5 @@ shortest_front g s = record {
   none = first_none 0 g s;
 }
   where
-    found : (n : ℕ) → shortest_text_from 0 g s ≡ just n → Shortest g s n
+    found : (n : ℕ) → shortest_text_from 0 g s ≡ Some n → Shortest g s n
     found n e = let (q, i, h) = first_is 0 g s n e in subst (Shortest g s) (sym (i ∙ omega arith)) h

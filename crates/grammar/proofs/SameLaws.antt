@@ -1,9 +1,9 @@
 -- Grammars of the same texts; what an octet leaves of a grammar.
+use Rattle.std.specs.Prelude.{Option, None, Some}
 use mathlib.Core.Path.{◌≡◌, refl, sym, ap, ◌∙◌, subst}
 use mathlib.Core.List.{List, [], ◌∷◌, ◌++◌, flatten, append_assoc, append-nil, head-eq_of_cons-eq}
 use mathlib.Core.Logic.{inl, inr}
 use mathlib.Core.Bool.{Bool, true, false, false≢true}
-use mathlib.Core.Option.{Option, none as nothing, some as just}
 use Prim.Native.Nat.{ℕ, suc, ◌≤◌}
 use native.Mathlib.Omega.{arith}
 use Rattle.octets.specs.Octets.{Octets, is_nothing}
@@ -339,7 +339,7 @@ module _ {x : ℕ} {a b : Grammar} (h : On x a b) (at : ℕ) (s : Octets) where
   unfolding fault_from
   fault_goes_on e = rw (same_has (on_following h), e, fault_from) (fault_same (on_following h) (suc at) s)
 
-  pub fault_stops : has_text b ≡ false → fault_from at a (x ∷ s) ≡ just at
+  pub fault_stops : has_text b ≡ false → fault_from at a (x ∷ s) ≡ Some at
   unfolding fault_from
   fault_stops e = rw (same_has (on_following h), e, fault_from)
 
@@ -357,10 +357,10 @@ module _ {x : ℕ} {a b : Grammar} (h : On x a b) (at : ℕ) (s : Octets) where
       go false e = rw (fault_stops e) (no (fault_from (suc at) b s) refl)
         where
           no : (o : Option ℕ) → fault_from (suc at) b s ≡ o → false ≡ is_nothing (fault_from (suc at) b s)
-          no nothing f = absurd (false≢true (sym e ∙ some_complete b s (text_of_none (suc at) b s f)))
-          no (just p) f = rw f
+          no None f = absurd (false≢true (sym e ∙ some_complete b s (text_of_none (suc at) b s f)))
+          no (Some p) f = rw f
 
-pub first_of_none : (at : ℕ) (s : Octets) → shortest_text_from at none s ≡ nothing
+pub first_of_none : (at : ℕ) (s : Octets) → shortest_text_from at none s ≡ None
 unfolding shortest_text_from following has_empty
 first_of_none at [] = refl
 first_of_none at (x ∷ s) = first_of_none (suc at) s

@@ -1,7 +1,7 @@
 -- Laws of what is left of a program once some of its names are answered.
+use Rattle.std.specs.Prelude.{None, Some}
 use mathlib.Core.Path.{◌≡◌, refl, ap₂, sym, ◌∙◌, subst, fun_ext}
 use mathlib.Core.List.{[], ◌∷◌, ◌++◌, append_assoc, append-nil}
-use mathlib.Core.Option.{none as nothing, some as just}
 use Rattle.lookup.specs.Lookup.{Name, Lookups, ask, ◌>>=◌, Answers, find, needs, run_over}
 use Rattle.lookup.specs.code.Following.{Follows}
 use Rattle.lookup.proofs.RunLaws.{find_append, find_new, run_known, run_open, run_bind, onward}
@@ -26,11 +26,11 @@ module _ {R A : Type 0} {β : Answers R} where
   follows_run {t} {u} f = subst (λ x. run_over x t ≡ run_over x u) (append-nil β) (f.runs [])
 
   -- past a name that has an answer
-  pub follows_known : (n : Name) (k : R → Lookups R A) (r : R) → find β n ≡ just r → Follows β (ask n k) (k r)
+  pub follows_known : (n : Name) (k : R → Lookups R A) (r : R) → find β n ≡ Some r → Follows β (ask n k) (k r)
   unfolding run_over
   follows_known n k r e = record { runs = λ γ. run_known (find (β ++ γ)) n k r (find_append β γ n r e) }
 
-  module _ {t : Lookups R A} {n : Name} {k : R → Lookups R A} (f : Follows β t (ask n k)) (e : find β n ≡ nothing) where
+  module _ {t : Lookups R A} {n : Name} {k : R → Lookups R A} (f : Follows β t (ask n k)) (e : find β n ≡ None) where
     -- where the next name of what is left has no answer, it is the one that the program needs
     pub follows_needs : run_over β t ≡ needs n
     unfolding run_over
@@ -38,7 +38,7 @@ module _ {R A : Type 0} {β : Answers R} where
 
 -- and with its answer, what is left is what follows it
 pub follows_new : {R A : Type 0} {β : Answers R} {t : Lookups R A} {n : Name} {k : R → Lookups R A}
-    → Follows β t (ask n k) → find β n ≡ nothing → (r : R) → Follows (β ++ ((n, r) ∷ [])) t (k r)
+    → Follows β t (ask n k) → find β n ≡ None → (r : R) → Follows (β ++ ((n, r) ∷ [])) t (k r)
 follows_new {β = β} {n = n} {k = k} f e r = follows_on (follows_more f ((n, r) ∷ [])) (follows_known n k r (find_new β n r e))
 
 -- one program and then another

@@ -1,7 +1,7 @@
 -- Laws of tests over lists, and over the octets of a text.
+use Rattle.std.specs.Prelude.{None, Some}
 use mathlib.Core.Path.{◌≡◌, refl, ap, ap₂, ◌∙◌}
 use mathlib.Core.List.{List, [], ◌∷◌, ◌++◌}
-use mathlib.Core.Option.{none as nothing, some as just}
 use mathlib.Core.Bool.{Bool, true, false, ◌&&◌, ◌||◌, or-true, true≢false}
 use Prim.Native.Nat.{ℕ, zero, suc, ◌+◌, ◌-◌, ◌≤◌, ◌<◌}
 use native.Mathlib.Omega.{arith}
@@ -56,13 +56,13 @@ neither false b e = (refl, e)
 -- ------------------------------------------------------------------ numbers of a list
 
 module _ {A : Type 0} where
-  pub numbered_in : (l : List A) (n : ℕ) (d : A) → n < length l → numbered l n ≡ just (get_or l n d)
+  pub numbered_in : (l : List A) (n : ℕ) (d : A) → n < length l → numbered l n ≡ Some (get_or l n d)
   unfolding numbered
   numbered_in [] n d h = absurd (omega arith)
   numbered_in (a ∷ l) zero d h = refl
   numbered_in (a ∷ l) (suc n) d h = numbered_in l n d (omega arith)
 
-  pub numbered_out : (l : List A) (n : ℕ) → length l ≤ n → numbered l n ≡ nothing
+  pub numbered_out : (l : List A) (n : ℕ) → length l ≤ n → numbered l n ≡ None
   unfolding numbered
   numbered_out [] n h = refl
   numbered_out (a ∷ l) zero h = absurd (omega arith)

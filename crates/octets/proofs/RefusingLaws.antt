@@ -1,11 +1,16 @@
 -- Laws of values with a refusal in their place.
+use Rattle.std.specs.Prelude.{Option, None, Some, option_map}
 use mathlib.Core.Path.{◌≡◌, refl}
 use mathlib.Core.Bool.{Bool, true, false}
-use mathlib.Core.Option.{Option, none as nothing, some as just}
 use Prim.Native.Nat.{ℕ}
 use native.Mathlib.Omega.{arith}
 use Rattle.octets.specs.declared.Refusal.{Refusal}
 use Rattle.octets.specs.Refusing.{◌>>=◌, OrRefused, ok, not_ok, refuse_if, or_refuse}
+
+-- a value changed twice
+pub option_map_map : {A B C : Type 0} (g : B → C) (f : A → B) (o : Option A) → option_map g (option_map f o) ≡ option_map (λ a. g (f a)) o
+option_map_map g f None = refl
+option_map_map g f (Some a) = refl
 
 -- one value after another
 
@@ -27,10 +32,10 @@ module _ {A B : Type 0} where
   bind_ok (ok a) f b e = (a, (refl, e))
   bind_ok (not_ok r) f b e = absurd (let z : ◌≡◌ {A = ℕ} 0 1 = cc in omega arith)
 
-  pub or_refuse_ok : (o : Option A) (r : Refusal) (f : A → OrRefused B) (b : B) → (or_refuse o r >>= f) ≡ ok b → (a : A) × ((o ≡ just a) × (f a ≡ ok b))
+  pub or_refuse_ok : (o : Option A) (r : Refusal) (f : A → OrRefused B) (b : B) → (or_refuse o r >>= f) ≡ ok b → (a : A) × ((o ≡ Some a) × (f a ≡ ok b))
   unfolding ◌>>=◌ or_refuse
-  or_refuse_ok (just a) r f b e = (a, (refl, e))
-  or_refuse_ok nothing r f b e = absurd (let z : ◌≡◌ {A = ℕ} 0 1 = cc in omega arith)
+  or_refuse_ok (Some a) r f b e = (a, (refl, e))
+  or_refuse_ok None r f b e = absurd (let z : ◌≡◌ {A = ℕ} 0 1 = cc in omega arith)
 
 pub refuse_if_ok : {A : Type 0} (t : Bool) (r : Refusal) (u : OrRefused A) (b : A) → (refuse_if t r >>= λ _. u) ≡ ok b → (t ≡ false) × (u ≡ ok b)
 unfolding ◌>>=◌ refuse_if

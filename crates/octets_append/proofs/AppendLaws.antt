@@ -10,15 +10,15 @@ use lib.ListN.{length, take, drop, length-append, length-take, length-drop, take
 use lib.Seq.{length-take-le, take-take, take_at, take-append_seam, take-append-le, drop_at, drop-append-le, drop-drop, drop-length}
 use borrow.Author.Tests.{le-leb, lt-leb, leb-true, leb-false}
 use borrow.Rule.Slice.PartMut.{put_mid}
-use Rattle.std.specs.Prelude.{if◌then◌else◌}
+use Rattle.std.specs.Prelude.{if◌then◌else◌, Result, Ok, Err}
+use Rattle.std.specs.Result.{result_unwrap_or}
 use Rattle.octets.specs.Octets.{Octets}
 use Rattle.octets.specs.Lent.{over, fits, written, left, Writes}
 use Rattle.octets.specs.Refusing.{refusal}
-use Rattle.octets.specs.declared.Written.{Written}
-use Rattle.octets.specs.declared.Written.TheVariants.{Wrote, Refused}
 use Rattle.octets.proofs.ListLaws.{drop_take}
 use Rattle.octets.proofs.LentLaws.{rest_of, writes}
-use Rattle.octets_append.specs.code.Appending.{place_after, fits_at, Appends}
+use Rattle.octets_append.specs.code.Appending.{fits_at, Appends}
+use Rattle.octets.specs.declared.Refusal.{Refusal}
 
 module _ (text before : Octets) (at : ℕ) where
   -- a place past the end
@@ -40,8 +40,8 @@ module _ (text before : Octets) (at : ℕ) where
           lt-leb (length text) (length (drop at before)) (omega (arith, leb-false (at + length text) (length before) e, length-drop at before)) ∙ sym e
 
   -- what was written into what follows the place
-  module _ (h : at ≤ length before) {w : Written} {rest : Octets} (writes : Writes text (take (length before - at) (drop at before)) w rest) where
-    answered : w ≡ (if fits_at text at before then Wrote (length text) else Refused (refusal 10 (length text)))
+  module _ (h : at ≤ length before) {w : Result ℕ Refusal} {rest : Octets} (writes : Writes text (take (length before - at) (drop at before)) w rest) where
+    answered : w ≡ (if fits_at text at before then Ok (length text) else Err (refusal 10 (length text)))
     unfolding written
     answered = (rw (rest_of before at) at writes).answers ∙ rw (same_fit h)
 
@@ -49,24 +49,27 @@ module _ (text before : Octets) (at : ℕ) where
     unfolding left
     lies = (rw (rest_of before at) at writes).leaves ∙ rw (same_fit h)
 
-    pub place_bound : length before < 2 ^ 64 → place_after at w < 2 ^ 64
-    unfolding place_after fits_at
-    place_bound k = rw answered (go (leb (at + length text) (length before)) refl)
+    -- the place after it
+    moved : at + result_unwrap_or w 0 ≡ (if fits_at text at before then at + length text else at)
+    moved = rw answered (go (fits_at text at before))
       where
-        go : (b : Bool) → leb (at + length text) (length before) ≡ b → place_after at (if b then Wrote (length text) else Refused (refusal 10 (length text))) < 2 ^ 64
+        go : (b : Bool) → at + result_unwrap_or (if b then Ok (length text) else Err (refusal 10 (length text))) 0 ≡ (if b then at + length text else at)
+        go true = refl
+        go false = omega arith
+
+    pub place_bound : length before < 2 ^ 64 → at + result_unwrap_or w 0 < 2 ^ 64
+    unfolding fits_at
+    place_bound k = rw moved (go (leb (at + length text) (length before)) refl)
+      where
+        go : (b : Bool) → leb (at + length text) (length before) ≡ b → (if b then at + length text else at) < 2 ^ 64
         go true e = omega (arith, leb-true (at + length text) (length before) e)
         go false e = omega arith
 
-    pub appends : (next : ℕ) → next ≡ place_after at w → Appends text at before next (put_mid at (length before - at) before rest)
-    unfolding place_after
-    appends next e = record { moves = e ∙ ap (place_after at) answered ∙ moved (fits_at text at before); leaves = ap (λ r. take at before ++ (r ++ drop (length before - at) (drop at before))) lies ∙ left_there (fits_at text at before) }
+    pub appends : Appends text at before (at + result_unwrap_or w 0) (put_mid at (length before - at) before rest)
+    appends = record { moves = moved; leaves = ap (λ r. take at before ++ (r ++ drop (length before - at) (drop at before))) lies ∙ left_there (fits_at text at before) }
       where
         end : drop (length before - at) (drop at before) ≡ []
         end = rw (← length-drop at before) (drop-length (drop at before))
-
-        moved : (b : Bool) → place_after at (if b then Wrote (length text) else Refused (refusal 10 (length text))) ≡ (if b then at + length text else at)
-        moved true = refl
-        moved false = refl
 
         left_there : (b : Bool) → take at before ++ ((if b then over text (drop at before) else drop at before) ++ drop (length before - at) (drop at before)) ≡ (if b then take at before ++ over text (drop at before) else before)
         left_there true = rw (end, append-nil)
@@ -120,7 +123,7 @@ module _ (a b before : Octets) (at : ℕ) (room : at + length (a ++ b) ≤ lengt
       ∙ rw (once_is, take_at front (drop (at + length a) before) mid front_length, ← drop-drop, drop_at front (drop (at + length a) before) mid front_length, drop-drop, size, append_assoc, append_assoc, add_assoc))
 
 -- a text that was written from the start on
-pub appends_whole : (text memory : Octets) {next : ℕ} {after : Octets} → length text ≤ length memory → Appends text 0 memory next after → Writes text memory (Wrote next) after
+pub appends_whole : (text memory : Octets) {next : ℕ} {after : Octets} → length text ≤ length memory → Appends text 0 memory next after → Writes text memory (Ok next) after
 unfolding over
 appends_whole text memory room p =
     writes text memory room _ (moved_on text memory 0 (omega arith) p ∙ zero-add (length text)) _ (stands text memory 0 (omega arith) p ∙ rw zero-add)

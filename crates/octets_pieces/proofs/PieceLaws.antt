@@ -1,7 +1,6 @@
 -- Laws of pieces.
 use Rattle.std.proofs.Common.{◌≡◌, ℕ, zero, suc, ◌+◌, ◌-◌, ◌<◌, ◌≤◌, List, [], ◌∷◌, ◌++◌, map, length, get_or, take, sym, refl, ap, ◌∙◌, ap₂, append_assoc, append-nil, add-one, arith, length-append, take-suc, take_at, drop_at}
 use mathlib.Core.List.{flatten}
-use lib.Seq.{take-length}
 use Rattle.octets.specs.Octets.{Octets, part_of}
 use Rattle.octets_pieces.specs.code.Pieces.{piece, pieces, starts}
 
@@ -11,23 +10,20 @@ past [] i h = refl
 past (n ∷ ns) zero h = absurd (omega arith)
 past (n ∷ ns) (suc i) h = past ns i (omega arith)
 
-module _ (texts : Octets) (begins : List ℕ) where
-  -- past the last
-  pub no_piece : (n : ℕ) → length begins ≤ n + 1 → piece texts begins n ≡ []
-  unfolding piece part_of
-  no_piece n h = let none : 0 - get_or begins n 0 ≡ 0 = omega arith in rw (past begins (n + 1) h, none)
+-- past the last
+pub no_piece : (texts : Octets) (begins : List ℕ) (n : ℕ) → length begins ≤ n + 1 → piece texts begins n ≡ []
+unfolding piece part_of
+no_piece texts begins n h = let none : 0 - get_or begins n 0 ≡ 0 = omega arith in rw (past begins (n + 1) h, none)
 
-  pieces_snoc : (ns : List ℕ) (n : ℕ) → pieces texts begins (ns ++ (n ∷ [])) ≡ pieces texts begins ns ++ piece texts begins n
-  unfolding pieces flatten
-  pieces_snoc [] n = append-nil (piece texts begins n)
-  pieces_snoc (m ∷ ns) n = ap (λ (t : Octets). piece texts begins m ++ t) (pieces_snoc ns n) ∙ sym (append_assoc (piece texts begins m) (pieces texts begins ns) (piece texts begins n))
+module _ {A : Type 0} (f : A → Octets) where
+  one_after : (xs : List A) (x : A) → flatten (map f (xs ++ (x ∷ []))) ≡ flatten (map f xs) ++ f x
+  unfolding flatten
+  one_after [] x = append-nil (f x)
+  one_after (y ∷ xs) x = ap (λ (t : Octets). f y ++ t) (one_after xs x) ∙ sym (append_assoc (f y) (flatten (map f xs)) (f x))
 
-  -- one piece more
-  pub one_more : (ns : List ℕ) (i : ℕ) → i < length ns → pieces texts begins (take (i + 1) ns) ≡ pieces texts begins (take i ns) ++ piece texts begins (get_or ns i 0)
-  one_more ns i h = rw (add-one i, take-suc ns i 0 h) (pieces_snoc (take i ns) (get_or ns i 0))
-
-  pub all_pieces : (ns : List ℕ) (i : ℕ) → i ≡ length ns → pieces texts begins (take i ns) ≡ pieces texts begins ns
-  all_pieces ns i e = rw (e, take-length)
+  -- one text more
+  pub one_more : (xs : List A) (i : ℕ) (d : A) → i < length xs → flatten (map f (take (i + 1) xs)) ≡ flatten (map f (take i xs)) ++ f (get_or xs i d)
+  one_more xs i d h = rw (add-one i, take-suc xs i d h) (one_after (take i xs) (get_or xs i d))
 
 -- ------------------------------------------------------------------ a table of words
 

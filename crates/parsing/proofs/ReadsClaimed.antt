@@ -1,8 +1,8 @@
 -- The proofs of what is claimed of every reading program.
+use Rattle.std.specs.Prelude.{Option, None, Some}
 use mathlib.Core.Path.{◌≡◌, refl, sym, ap, ◌∙◌, subst}
 use mathlib.Core.List.{List, [], ◌∷◌, ◌++◌, flatten, cons≢nil, head-eq_of_cons-eq, tail-eq_of_cons-eq}
 use mathlib.Core.Logic.{inl, inr}
-use mathlib.Core.Option.{Option, none as nothing, some as just, none-ne-some}
 use Prim.Native.Nat.{ℕ, suc, ◌+◌, ◌<◌}
 use native.Mathlib.Omega.{arith}
 use lib.ListN.{length, take}
@@ -14,6 +14,7 @@ use Rattle.parsing.specs.Claims.{new, Parts}
 use Rattle.parsing.specs.code.Whole.{Whole, Begun, Live, Reading}
 use Rattle.parsing.proofs.RefusingLaws.{ok≢not-ok, ok_injective, refused_injective}
 use Rattle.parsing.proofs.ReadsLaws.{run_on, run_stuck, feed_stuck, feed_settled, feed_flat, feed_append, then_feed, after_rows}
+use Rattle.std.proofs.lemmas.Option.{none-some}
 
 module _ {R A : Type 0} where
   -- ---------------------------------------------------------------- telling apart
@@ -59,7 +60,7 @@ module _ {R A : Type 0} where
   run_whole (next refuses k) at [] rs a w = absurd (cons≢nil (sym w.2))
   run_whole (next refuses k) at (y ∷ s) rs a w =
       let (x, u, e, f, v) = w in
-      let g : refuses y ≡ nothing = ap refuses (head-eq_of_cons-eq e) ∙ f in
+      let g : refuses y ≡ None = ap refuses (head-eq_of_cons-eq e) ∙ f in
       let (h, i) = run_whole (k y) (suc at) s rs a (subst (λ z. Whole (k z) s rs a) (sym (head-eq_of_cons-eq e)) (subst (λ z. Whole (k x) z rs a) (sym (tail-eq_of_cons-eq e)) v)) in
       (ap (λ z. z.rows) (run_on at refuses k y s g) ∙ h, ap (λ z. z.reader.left) (run_on at refuses k y s g) ∙ i)
 
@@ -72,8 +73,8 @@ module _ {R A : Type 0} where
   whole_run (next refuses k) at (x ∷ s) a e = go (refuses x) refl (whole_run (k x) (suc at) s a)
     where
       go : (o : Option ℕ) → refuses x ≡ o → ((run (suc at) (k x) s).reader.left ≡ open_at (done a) → Whole (k x) s (run (suc at) (k x) s).rows a) → Whole (next refuses k) (x ∷ s) (run at (next refuses k) (x ∷ s)).rows a
-      go nothing f h = (x, s, refl, f, subst (λ z. Whole (k x) s z.rows a) (sym (run_on at refuses k x s f)) (h (sym (ap (λ z. z.reader.left) (run_on at refuses k x s f)) ∙ e)))
-      go (just n) f h = absurd (open≢stuck (sym e ∙ ap (λ z. z.reader.left) (run_stuck at refuses k x s n f)))
+      go None f h = (x, s, refl, f, subst (λ z. Whole (k x) s z.rows a) (sym (run_on at refuses k x s f)) (h (sym (ap (λ z. z.reader.left) (run_on at refuses k x s f)) ∙ e)))
+      go (Some n) f h = absurd (open≢stuck (sym e ∙ ap (λ z. z.reader.left) (run_stuck at refuses k x s n f)))
 
   -- ---------------------------------------------------------------- texts that can be gone on with
 
@@ -85,11 +86,11 @@ module _ {R A : Type 0} where
   unfolding Whole
   begun_give_back r t s b = (b.0, b.3.0, b.2, b.3.2)
 
-  pub begun_next : (refuses : ℕ → Option ℕ) (k : ℕ → Reads R A) (x : ℕ) (s : Octets) → refuses x ≡ nothing → Begun (k x) s → Begun (next refuses k) (x ∷ s)
+  pub begun_next : (refuses : ℕ → Option ℕ) (k : ℕ → Reads R A) (x : ℕ) (s : Octets) → refuses x ≡ None → Begun (k x) s → Begun (next refuses k) (x ∷ s)
   unfolding Whole
   begun_next refuses k x s e b = (b.0, b.1, b.2, (x, s ++ b.0, refl, e, b.3))
 
-  pub begun_next_back : (refuses : ℕ → Option ℕ) (k : ℕ → Reads R A) (x : ℕ) (s : Octets) → Begun (next refuses k) (x ∷ s) → (refuses x ≡ nothing) × Begun (k x) s
+  pub begun_next_back : (refuses : ℕ → Option ℕ) (k : ℕ → Reads R A) (x : ℕ) (s : Octets) → Begun (next refuses k) (x ∷ s) → (refuses x ≡ None) × Begun (k x) s
   unfolding Whole
   begun_next_back refuses k x s b =
       let (rest, rs, a, w) = b in
@@ -132,7 +133,7 @@ module _ {R A : Type 0} where
   live_place (next refuses k) at (x ∷ s) q l e = go (refuses x) refl (live_place (k x) (suc at) s q)
     where
       go : (o : Option ℕ) → refuses x ≡ o → (Live (k x) → (run (suc at) (k x) s).reader.left ≡ stuck q → (p : ℕ) × (q.place ≡ suc at + p) × Stuck (k x) s p) → (p : ℕ) × (q.place ≡ at + p) × Stuck (next refuses k) (x ∷ s) p
-      go nothing f h =
+      go None f h =
           let (p, i, c) = h (l.1 x f) (sym (ap (λ z. z.reader.left) (run_on at refuses k x s f)) ∙ e) in (
             suc p,
             omega (arith, i),
@@ -142,14 +143,14 @@ module _ {R A : Type 0} where
               not_there = λ b. c.not_there (begun_next_back refuses k x (take (suc p) s) b).1;
             },
           )
-      go (just n) f h =
+      go (Some n) f h =
           let i = stuck_injective (sym (ap (λ z. z.reader.left) (run_stuck at refuses k x s n f)) ∙ e) in (
             0,
             omega (arith, ap (λ z. z.place) i),
             record {
               inside = omega arith;
               before = live_begun (next refuses k) l;
-              not_there = λ b. none-ne-some n (sym (begun_next_back refuses k x [] b).0 ∙ f);
+              not_there = λ b. none-some n (sym (begun_next_back refuses k x [] b).0 ∙ f);
             },
           )
 
@@ -164,10 +165,10 @@ module _ {R A : Type 0} where
     where
       go : (o : Option ℕ) → refuses x ≡ o → (Live (k x) → (run (suc at) (k x) s).reader.left ≡ open_at u → ((run (suc at) (k x) s).reader.taken ≡ suc at + length s) × Begun (k x) s)
           → ((run at (next refuses k) (x ∷ s)).reader.taken ≡ at + suc (length s)) × Begun (next refuses k) (x ∷ s)
-      go nothing f h =
+      go None f h =
           let (i, b) = h (l.1 x f) (sym (ap (λ z. z.reader.left) (run_on at refuses k x s f)) ∙ e) in
           (omega (arith, i, ap (λ z. z.reader.taken) (run_on at refuses k x s f)), begun_next refuses k x s f b)
-      go (just n) f h = absurd (open≢stuck (sym e ∙ ap (λ z. z.reader.left) (run_stuck at refuses k x s n f)))
+      go (Some n) f h = absurd (open≢stuck (sym e ∙ ap (λ z. z.reader.left) (run_stuck at refuses k x s n f)))
 
   -- ---------------------------------------------------------------- the end
 
@@ -231,11 +232,11 @@ module _ {R A : Type 0} where
     where
       go : (o : Option ℕ) → refuses x ≡ o → ((run (suc at) (k x) s).reader.left ≡ stuck q → (p : ℕ) × (q.place ≡ suc at + p) × ((run (suc at) (k x) s).rows ≡ (run (suc at) (k x) (take p s)).rows))
           → (p : ℕ) × (q.place ≡ at + p) × ((run at (next refuses k) (x ∷ s)).rows ≡ (run at (next refuses k) (take p (x ∷ s))).rows)
-      go nothing f ih =
+      go None f ih =
           let on = run_on at refuses k x s f in
           let (p, i, c) = ih (sym (ap (λ z. z.reader.left) on) ∙ e) in
           (suc p, omega (arith, i), ap (λ z. z.rows) on ∙ c ∙ sym (ap (λ z. z.rows) (run_on at refuses k x (take p s) f)))
-      go (just n) f ih =
+      go (Some n) f ih =
           let on = run_stuck at refuses k x s n f in
           (0, omega (arith, ap (λ z. z.place) (stuck_injective (sym (ap (λ z. z.reader.left) on) ∙ e))), ap (λ z. z.rows) on)
 

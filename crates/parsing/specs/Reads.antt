@@ -1,6 +1,5 @@
 -- Programs that read a text octet by octet and hand out rows on the way; a text read whole, and in parts.
-use Rattle.std.specs.Prelude.{List, [], ◌∷◌, ◌++◌, Bool, ℕ, suc, eqb, if◌then◌else◌}
-use Rattle.std.proofs.Math.Option.{Option, none as nothing, some as just}
+use Rattle.std.specs.Prelude.{List, [], ◌∷◌, ◌++◌, Bool, ℕ, suc, eqb, if◌then◌else◌, Option, None, Some}
 use Rattle.octets.specs.Octets.{Octets}
 use Rattle.octets.specs.Refusing.{OrRefused, ok, not_ok, refusal}
 use Rattle.octets.specs.declared.Refusal.{Refusal}
@@ -24,7 +23,7 @@ t >> u = t >>= λ _. u
 
 -- an octet that passes a test; any other is refused 20, "text outside the form"
 unfoldable pub octet_where : {R A : Type 0} → (ℕ → Bool) → (ℕ → Reads R A) → Reads R A
-octet_where f k = next (λ x. if f x then nothing else just 20) k
+octet_where f k = next (λ x. if f x then None else Some 20) k
 
 -- these octets
 unfoldable pub exactly : {R : Type 0} → Octets → Reads R (Unit {0})
@@ -58,7 +57,7 @@ run at (give r t) s = handing r (run at t s)
 run at (done a) [] = stands at (open_at (done a))
 run at (done a) (x ∷ s) = stands at (stuck (refusal 20 at))
 run at (next refuses k) [] = stands at (open_at (next refuses k))
-run at (next refuses k) (x ∷ s) = elim (refuses x) [ nothing ↦ run (suc at) (k x) s | just n ↦ stands at (stuck (refusal n at)) ]
+run at (next refuses k) (x ∷ s) = elim (refuses x) [ None ↦ run (suc at) (k x) s | Some n ↦ stands at (stuck (refusal n at)) ]
 
 -- a part of the text: "after a refusal every later part gets the same one"
 unfoldable pub feed : {R A : Type 0} → Reader R A → Octets → Fed R A

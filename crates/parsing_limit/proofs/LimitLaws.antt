@@ -1,8 +1,8 @@
 -- Laws of programs that take so many octets and no more.
+use Rattle.std.specs.Prelude.{Option, None, Some}
 use mathlib.Core.Path.{◌≡◌, refl, sym, ap, ◌∙◌, subst}
 use mathlib.Core.List.{List, [], ◌∷◌}
 use mathlib.Core.Bool.{Bool, true, false, false≢true}
-use mathlib.Core.Option.{Option, none as nothing, some as just}
 use Prim.Native.Nat.{ℕ, zero, suc, ◌+◌, ◌-◌, ◌≤◌}
 use native.Mathlib.Omega.{arith}
 use lib.ListN.{length}
@@ -56,10 +56,10 @@ module _ {R A : Type 0} where
   most_step n x (give r t) = most_step n x t
   most_step n x (next refuses k) = go (refuses x)
     where
-      go : (o : Option ℕ) → (elim o as (λ _. Step R A) [ nothing ↦ on (at_most n (k x)) | just m ↦ refused m ])
-          ≡ step_most {R = R} {A = A} n (elim o as (λ _. Step R A) [ nothing ↦ on (k x) | just m ↦ refused m ])
-      go nothing = refl
-      go (just m) = refl
+      go : (o : Option ℕ) → (elim o as (λ _. Step R A) [ None ↦ on (at_most n (k x)) | Some m ↦ refused m ])
+          ≡ step_most {R = R} {A = A} n (elim o as (λ _. Step R A) [ None ↦ on (k x) | Some m ↦ refused m ])
+      go None = refl
+      go (Some m) = refl
 
   pub full_step : (x : ℕ) (t : Reads R A) → step_of (at_most 0 t) x ≡ refused 20
   unfolding at_most step_of
@@ -81,10 +81,10 @@ module _ {R A : Type 0} where
   run_most (suc n) at most (next refuses k) [] e w = let same : most - at ≡ suc n = omega (arith, e) in sym (ap (λ m. stands at (open_at (at_most m (next refuses k)))) same)
   run_most (suc n) at most (next refuses k) (x ∷ s) e w = go (refuses x) refl (λ q. run_most n (suc at) most (k x) s (omega (arith, e)) (w x q))
     where
-      go : (o : Option ℕ) → refuses x ≡ o → (refuses x ≡ nothing → run (suc at) (at_most n (k x)) s ≡ limited_fed most (run (suc at) (k x) s))
+      go : (o : Option ℕ) → refuses x ≡ o → (refuses x ≡ None → run (suc at) (at_most n (k x)) s ≡ limited_fed most (run (suc at) (k x) s))
           → run at (next refuses (λ y. at_most n (k y))) (x ∷ s) ≡ limited_fed most (run at (next refuses k) (x ∷ s))
-      go nothing q h = run_on at refuses (λ y. at_most n (k y)) x s q ∙ h q ∙ ap (limited_fed most) (sym (run_on at refuses k x s q))
-      go (just m) q h = run_stuck at refuses (λ y. at_most n (k y)) x s m q ∙ ap (limited_fed most) (sym (run_stuck at refuses k x s m q))
+      go None q h = run_on at refuses (λ y. at_most n (k y)) x s q ∙ h q ∙ ap (limited_fed most) (sym (run_on at refuses k x s q))
+      go (Some m) q h = run_stuck at refuses (λ y. at_most n (k y)) x s m q ∙ ap (limited_fed most) (sym (run_stuck at refuses k x s m q))
 
   pub ended_limited : (most : ℕ) (r : Reader R A) → ended (limited most r) ≡ ended r
   unfolding ended limited limited_left at_most

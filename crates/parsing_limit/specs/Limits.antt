@@ -1,12 +1,11 @@
 -- A reading program that takes so many octets and no more: an octet behind them is refused 20.
-use Rattle.std.specs.Prelude.{◌≡◌, Bool, true, false, ℕ, zero, suc, ◌-◌}
-use Rattle.std.proofs.Math.Option.{Option, none as nothing, some as just}
+use Rattle.std.specs.Prelude.{◌≡◌, Bool, true, false, ℕ, zero, suc, ◌-◌, Option, None, Some}
 use Rattle.parsing.specs.Reads.{Reads, done, give, next, Left, open_at, stuck, Reader, Fed}
 
 unfoldable pub at_most : {R A : Type 0} → ℕ → Reads R A → Reads R A
 at_most n (done a) = done a
 at_most n (give r t) = give r (at_most n t)
-at_most zero (next refuses k) = next (λ x. just 20) k
+at_most zero (next refuses k) = next (λ x. Some 20) k
 at_most (suc n) (next refuses k) = next refuses (λ x. at_most n (k x))
 
 -- a reader that counts so far
@@ -28,4 +27,4 @@ unfoldable pub Within : {R A : Type 0} → ℕ → Reads R A → Type 0
 Within n (done a) = Unit
 Within n (give r t) = Within n t
 Within zero (next refuses k) = ⊥
-Within (suc n) (next refuses k) = (x : ℕ) → refuses x ≡ nothing → Within n (k x)
+Within (suc n) (next refuses k) = (x : ℕ) → refuses x ≡ None → Within n (k x)

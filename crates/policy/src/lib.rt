@@ -2,7 +2,7 @@
 #![tactic(auto)]
 
 // What a domain owner asks for.
-#[derive(Clone, Copy)]
+#[derive(Clone, Copy, PartialEq, Eq)]
 pub enum Policy {
     None,
     Quarantine,
@@ -44,13 +44,6 @@ pub struct Settings {
     pub t: bool,
     // whether rua has a valid entry
     pub reports: bool,
-}
-
-// What a text is.
-#[derive(Clone, Copy)]
-pub enum Reading {
-    Record(Settings),
-    NoRecord,
 }
 
 // Where a part stands in a text: the octet at which it begins, and how many octets it has.

@@ -1,7 +1,7 @@
 // The tags of a policy text, gathered in one pass.
 #![tactic(auto)]
 
-ghost use Rattle.std.specs.Prelude.{false, ◌≡◌};
+ghost use Rattle.std.specs.Prelude.{◌≡◌};
 ghost use Rattle.policy_gather.specs.code.Gathering.{Knows, Gathers};
 
 use text_class::Class;
@@ -9,35 +9,29 @@ use text_class::Class;
 // The number of the tag `v`.
 const V: usize = 8;
 
-// Whether a text is a policy record; how many tags have names that are not known; and where the values of the others stand, by the tags' numbers. A length of 0 stands for no tag.
+// How many tags have names that are not known; and where the values of the others stand, by the tags' numbers. A length of 0 stands for no tag.
 #[derive(Clone, Copy)]
 pub struct Gathered {
-    pub valid: bool,
     pub others: usize,
     pub begins: [usize; 14],
     pub lengths: [usize; 14],
 }
 
-// The tags of a text.
-pub fn gather(text: &[u8]) -> Gathered
+// The tags of a text, where it is a policy record.
+pub fn gather(text: &[u8]) -> Option<Gathered>
     ensures { Gathers text.now result }
 {
-    let from = policy_tags::later_parts(text);
-    if from == 0 {
-        return no_tags();
+    let from = policy_tags::later_parts(text)?;
+    let tags = gather_known(text, from)?;
+    if 2 <= tags.others && policy_repeats::repeats_unknown(text, from) {
+        None
+    } else {
+        Some(tags)
     }
-    let tags = gather_known(text, from);
-    if tags.others < 2 {
-        return tags;
-    }
-    if policy_repeats::repeats_unknown(text, from) {
-        return no_tags();
-    }
-    tags
 }
 
-// The tags of known names from a place of the text on, in one pass over its parts; not valid where a name occurs twice.
-fn gather_known(text: &[u8], from: usize) -> Gathered
+// The tags of known names from a place of the text on, in one pass over its parts, where no name occurs twice.
+fn gather_known(text: &[u8], from: usize) -> Option<Gathered>
     ensures { Knows text.now from result }
 {
     let mut others = 0;
@@ -55,32 +49,19 @@ fn gather_known(text: &[u8], from: usize) -> Gathered
             let number = policy_words::tag_number(text_front::front(tag, Class::Letter));
             if number < 14 {
                 if lengths[number] != 0 {
-                    return no_tags();
+                    return None;
                 }
                 begins[number] = at + (kept.len() - length);
                 lengths[number] = length;
             } else {
-                others = others + 1;
+                others += 1;
             }
         }
         at = next;
     }
-    Gathered {
-        valid: true,
+    Some(Gathered {
         others,
         begins,
         lengths,
-    }
-}
-
-// What is gathered where there is no policy record.
-fn no_tags() -> Gathered
-    ensures { result.valid ≡ false }
-{
-    Gathered {
-        valid: false,
-        others: 0,
-        begins: [0; 14],
-        lengths: [0; 14],
-    }
+    })
 }

@@ -1,14 +1,13 @@
 -- Each tag's value stands in the text at its place.
 use mathlib.Core.Bool.{Bool, true, false}
 use mathlib.Core.List.{List, [], ◌∷◌, ◌++◌, append_assoc}
-use mathlib.Core.Option.{Option, none as nothing, some as just}
 use mathlib.Core.Path.{◌≡◌, refl, ap, sym, ◌∙◌, subst}
 use Prim.Native.Nat.{ℕ, suc, ◌+◌, ◌-◌, ◌≤◌}
 use native.Mathlib.Omega.{arith}
 use lib.Dec.{eqb}
 use lib.ListN.{length, take, drop, length-append, length-take, length-drop}
 use lib.Seq.{take-append_seam, drop-append_seam, drop-drop}
-use Rattle.std.specs.Prelude.{if◌then◌else◌}
+use Rattle.std.specs.Prelude.{if◌then◌else◌, Option, None, Some}
 use Rattle.octets.specs.Octets.{Octets, is_empty, same, onto_first, split, trim_end, trim}
 use Rattle.octets.proofs.PartLaws.{split_found, split_other}
 use Rattle.policy.specs.declared.Bounds.{Bounds}
@@ -62,8 +61,8 @@ stands_in d e v w r p q =
 -- a part that stands at a place of the text: so does its tag's value
 stands_tag : (s : Octets) (at : ℕ) (p : Octets) → ((r : Octets) × (drop at s ≡ p ++ r)) → (o : Option (Octets × Octets)) → name_and_value (trim p) ≡ o → (ts : List Tag) → AllStand s ts → AllStand s (add_tag (tag_of at p o) ts)
 unfolding tag_of add_tag AllStand Stands End
-stands_tag s at p w nothing e ts a = a
-stands_tag s at p w (just t) e ts a = go (well_formed t) refl
+stands_tag s at p w None e ts a = a
+stands_tag s at p w (Some t) e ts a = go (well_formed t) refl
   where
     v : Octets
     v = t.1
@@ -77,7 +76,7 @@ stands_tag s at p w (just t) e ts a = go (well_formed t) refl
     here : take (length v) (drop (at + (length (trim_end p) - length v)) s) ≡ v
     here = ap (take (length v)) (sym (drop-drop (length (trim_end p) - length v) at s)) ∙ stands_in (drop at s) (trim_end p) v ends.0 ((trim_end_front p).0 ++ w.0) begins ends.1
 
-    go : (b : Bool) → well_formed t ≡ b → AllStand s (add_tag (if well_formed t then just (record { name = t.0; value = t.1; place = at + (length (trim_end p) - length t.1) }) else nothing) ts)
+    go : (b : Bool) → well_formed t ≡ b → AllStand s (add_tag (if well_formed t then Some (record { name = t.0; value = t.1; place = at + (length (trim_end p) - length t.1) }) else None) ts)
     go true h = rw h ((has_value t h, here), a)
     go false h = rw h a
 
@@ -92,19 +91,19 @@ stands_tags s at (p ∷ ps) w =
 
 -- where there is one, its value is not empty and stands at its place
 pub Held : Octets → Option Tag → Type 0
-Held s nothing = Unit
-Held s (just t) = Stands s t
+Held s None = Unit
+Held s (Some t) = Stands s t
 
 held_named : (s n : Octets) (ts : List Tag) → AllStand s ts → Held s (tag_named n ts)
 unfolding tag_named AllStand Held
 held_named s n [] a = tt
 held_named s n (t ∷ ts) a =
-    elim (same t.name n) as (λ b. Held s (if b then just t else tag_named n ts)) [
+    elim (same t.name n) as (λ b. Held s (if b then Some t else tag_named n ts)) [
       | true ↦ a.0
       | false ↦ held_named s n ts a.1
     ]
 
-pub held_none : (s : Octets) → Held s nothing
+pub held_none : (s : Octets) → Held s None
 unfolding Held
 held_none s = tt
 
@@ -116,14 +115,14 @@ held s n at = held_named s n (tags_at at s) (stands_tags s at (split 59 (drop at
 -- its bounds lie in the text
 bounds_fit : (s : Octets) (o : Option Tag) → Held s o → (bounds_of o).begin + (bounds_of o).length ≤ length s
 unfolding bounds_of Held Stands
-bounds_fit s nothing h = omega arith
-bounds_fit s (just t) h = omega (arith, some_length t.value h.0, ap length h.1, length-take (length t.value) (drop t.place s), length-drop t.place s)
+bounds_fit s None h = omega arith
+bounds_fit s (Some t) h = omega (arith, some_length t.value h.0, ap length h.1, length-take (length t.value) (drop t.place s), length-drop t.place s)
 
 -- and cut the value out
 bounds_cut : (s : Octets) (o : Option Tag) → Held s o → take (bounds_of o).length (drop (bounds_of o).begin s) ≡ read [] (λ v. v) o
 unfolding bounds_of Held Stands read
-bounds_cut s nothing h = refl
-bounds_cut s (just t) h = h.1
+bounds_cut s None h = refl
+bounds_cut s (Some t) h = h.1
 
 module _ (s : Octets) (o : Option Tag) (h : Held s o) (b : Bounds) (e : b ≡ bounds_of o) where
   pub held_fits : b.begin + b.length ≤ length s
@@ -137,16 +136,16 @@ module _ (s : Octets) (o : Option Tag) (h : Held s o) (b : Bounds) (e : b ≡ bo
 module _ {A : Type 0} (absent : A) (f : Octets → A) where
   pub read_none : (s : Octets) (o : Option Tag) → Held s o → (v : Octets) → v ≡ read [] (λ l. l) o → length v ≡ 0 → absent ≡ read absent f o
   unfolding read Held Stands
-  read_none s nothing h v e z = refl
-  read_none s (just t) h v e z = absurd (some_length t.value h.0 (sym (ap length e) ∙ z))
+  read_none s None h v e z = refl
+  read_none s (Some t) h v e z = absurd (some_length t.value h.0 (sym (ap length e) ∙ z))
 
   pub read_some : (o : Option Tag) (v : Octets) → v ≡ read [] (λ l. l) o → (length v ≡ 0 → ⊥) → f v ≡ read absent f o
   unfolding read
-  read_some nothing v e z = absurd (z (ap length e))
-  read_some (just t) v e z = ap f e
+  read_some None v e z = absurd (z (ap length e))
+  read_some (Some t) v e z = ap f e
 
   -- where an empty value reads as absent
   pub read_either : f [] ≡ absent → (o : Option Tag) (v : Octets) → v ≡ read [] (λ l. l) o → f v ≡ read absent f o
   unfolding read
-  read_either d nothing v e = ap f e ∙ d
-  read_either d (just t) v e = ap f e
+  read_either d None v e = ap f e ∙ d
+  read_either d (Some t) v e = ap f e

@@ -1,18 +1,16 @@
 -- Laws of what a text sets.
 use mathlib.Core.Bool.{true, false, not}
 use mathlib.Core.List.{List, [], ◌∷◌}
-use mathlib.Core.Option.{Option, none as nothing, some as just}
 use mathlib.Core.Path.{◌≡◌, refl, ap, sym, ◌∙◌}
 use Prim.Native.Nat.{ℕ, ◌+◌, ◌-◌, ◌≤◌, ◌<◌}
 use native.Mathlib.Omega.{arith}
 use lib.Dec.{eqb}
 use lib.ListN.{length, take, drop}
-use Rattle.std.specs.Prelude.{if◌then◌else◌}
+use Rattle.std.specs.Prelude.{if◌then◌else◌, Some, None, Option}
 use Rattle.octets.specs.Octets.{Octets, octets, any, same, lower, split, front, after, trim_end, trim}
 use Rattle.policy.specs.declared.Bounds.{Bounds}
 use Rattle.policy.specs.declared.Mode.{Mode}
 use Rattle.policy.specs.declared.Psd.{Psd}
-use Rattle.policy.specs.declared.Reading.{Reading}
 use Rattle.policy.specs.declared.Setting.{Setting}
 use Rattle.policy.specs.Records.{word, policy_words, mode_words, psd_words, testing_words, read, settings, record_of, read_policy, rua_of, rua_text, rua_begin, rua_length, rua_bounds}
 use Rattle.policy.specs.Reports.{valid_entry, has_valid_entry}
@@ -88,14 +86,14 @@ module _ (s : Octets) where
   unfolding rua_bounds rua_begin rua_length rua_text bounds_of read
   rua_found = go (rua_of (tags s))
     where
-      go : (o : Option Tag) → bounds_of o ≡ record { begin = elim o as (λ _. ℕ) [ nothing ↦ 0 | just t ↦ t.place ]; length = length (read [] (λ v. v) o) }
-      go nothing = refl
-      go (just t) = refl
+      go : (o : Option Tag) → bounds_of o ≡ record { begin = elim o as (λ _. ℕ) [ None ↦ 0 | Some t ↦ t.place ]; length = length (read [] (λ v. v) o) }
+      go None = refl
+      go (Some t) = refl
 
   rua_held : Held s (rua_of (tags s))
   unfolding tags rua_of
   rua_held =
-      elim (is_record (parts s)) as (λ b. Held s (rua_of (if b then just (later_tags (parts s)) else nothing))) [
+      elim (is_record (parts s)) as (λ b. Held s (rua_of (if b then Some (later_tags (parts s)) else None))) [
         | true ↦ later_held (octets "rua")
         | false ↦ held_none s
       ]
@@ -112,23 +110,23 @@ module _ (s : Octets) where
 
   -- ------------------------------------------------------------------ what a text is
 
-  pub no_record : is_record (parts s) ≡ false → Reading.NoRecord ≡ read_policy s
+  pub no_record : Gathers s None → None ≡ read_policy s
   unfolding read_policy record_of tags
-  no_record v = rw v
+  no_record w = rw (sym w.judged)
 
-  pub no_rua : is_record (parts s) ≡ false → bounds_of nothing ≡ rua_bounds s
+  pub no_rua : Gathers s None → bounds_of None ≡ rua_bounds s
   unfolding tags rua_of
-  no_rua v = rw v at rua_found
+  no_rua w = rw (sym w.judged) at rua_found
 
-  module _ (g : Gathered) (w : Gathers s g) (v : g.valid ≡ true) where
+  module _ (g : Gathered) (w : Gathers s (Some g)) where
     valued : (k : ℕ) → k < 8 → value_at s g k ≡ read [] (λ l. l) (tag_named (tag_name k) (later_tags (parts s)))
     unfolding value_at bounds_at
-    valued k h = held_cut s (tag_named (tag_name k) (later_tags (parts s))) (later_held (tag_name k)) (bounds_at g k) (w.placed v k h)
+    valued k h = held_cut s (tag_named (tag_name k) (later_tags (parts s))) (later_held (tag_name k)) (bounds_at g k) (w.placed g refl k h)
 
-    pub one_record : Reading.Record (settings_from (value_at s g)) ≡ read_policy s
+    pub one_record : Some (settings_from (value_at s g)) ≡ read_policy s
     unfolding read_policy record_of tags
-    one_record = rw (sym w.judged ∙ v) (ap Reading.Record (settings_values s (later_tags (parts s)) (value_at s g) later_held valued))
+    one_record = rw (sym w.judged) (ap Some (settings_values s (later_tags (parts s)) (value_at s g) later_held valued))
 
     pub one_rua : bounds_at g 7 ≡ rua_bounds s
     unfolding tags rua_of tag_name tag_names
-    one_rua = w.placed v 7 (omega arith) ∙ (rw (sym w.judged ∙ v) at rua_found)
+    one_rua = w.placed g refl 7 (omega arith) ∙ (rw (sym w.judged) at rua_found)

@@ -5,7 +5,7 @@ ghost use Rattle.std.specs.Prelude.{◌≡◌, ◌<◌, drop, take};
 ghost use Rattle.policy.specs.Records.{read_policy, rua_begin, rua_length, rua_bounds};
 ghost use Rattle.policy_read.specs.code.Values.{value_at, policy_setting, settings_from};
 
-use policy::{Bounds, Reading, Setting, Settings};
+use policy::{Bounds, Setting, Settings};
 use policy_gather::Gathered;
 
 // The tags' numbers.
@@ -26,30 +26,28 @@ const T: usize = 6;
 const RUA: usize = 7;
 
 // What a text is.
-pub fn read(text: &[u8]) -> Reading
+pub fn read(text: &[u8]) -> Option<Settings>
     ensures { result ≡ read_policy text.now }
 {
-    let tags = policy_gather::gather(text);
-    if tags.valid {
-        return Reading::Record(read_settings(text, tags));
+    match policy_gather::gather(text) {
+        Some(tags) => Some(read_settings(text, tags)),
+        None => None,
     }
-    Reading::NoRecord
 }
 
 // Where the rua text stands in the text; 0 and 0 where there is none.
 pub fn rua_bounds(text: &[u8]) -> Bounds
     ensures { result ≡ rua_bounds text.now }
 {
-    let tags = policy_gather::gather(text);
-    if tags.valid {
-        return Bounds {
+    match policy_gather::gather(text) {
+        Some(tags) => Bounds {
             begin: tags.begins[RUA],
             length: tags.lengths[RUA],
-        };
-    }
-    Bounds {
-        begin: 0,
-        length: 0,
+        },
+        None => Bounds {
+            begin: 0,
+            length: 0,
+        },
     }
 }
 
@@ -58,9 +56,7 @@ pub fn rua(text: &[u8]) -> &[u8]
     ensures { result.now ≡ take (rua_length text.now) (drop (rua_begin text.now) text.now) }
 {
     let bounds = rua_bounds(text);
-    let begin = bounds.begin;
-    let end = begin + bounds.length;
-    &text[begin..end]
+    &text[bounds.begin..bounds.begin + bounds.length]
 }
 
 // What the tags set.
@@ -80,13 +76,15 @@ fn read_settings(text: &[u8], tags: Gathered) -> Settings
 }
 
 // The setting of p, sp or np; absent where the value is empty.
+#[tactic(auto, using(crate::proofs::RecordLaws::empty_value, crate::proofs::RecordLaws::some_value))]
 fn read_policy(value: &[u8]) -> Setting
     ensures { result ≡ policy_setting value.now }
 {
-    if value.len() == 0 {
-        return Setting::Absent;
+    if value.is_empty() {
+        Setting::Absent
+    } else {
+        policy_words::read_setting(value)
     }
-    policy_words::read_setting(value)
 }
 
 // The value of a tag; empty where there is none.
@@ -94,9 +92,6 @@ fn value_at(text: &[u8], tags: Gathered, number: usize) -> &[u8]
     requires { number < 14 }
     ensures { result.now ≡ value_at text.now tags number }
 {
-    text_parts::part(
-        text_parts::skip(text, tags.begins[number]),
-        0,
-        tags.lengths[number],
-    )
+    let rest = text_parts::skip(text, tags.begins[number]);
+    text_parts::part(rest, 0, tags.lengths[number])
 }

@@ -1,14 +1,13 @@
 -- Laws of the unknown names of a text.
 use mathlib.Core.Bool.{Bool, true, false, not}
 use mathlib.Core.List.{List, [], ◌∷◌, ◌++◌, append_assoc}
-use mathlib.Core.Option.{none as nothing, some as just}
 use mathlib.Core.Path.{◌≡◌, refl, ap, sym, ◌∙◌}
 use Prim.Native.Nat.{ℕ, ◌+◌, ◌-◌, ◌≤◌, ◌<◌}
 use native.Mathlib.Omega.{arith}
 use lib.Dec.{eqb, leb, ltb}
 use lib.ListN.{length, drop}
 use borrow.Author.Tests.{ltb-true, ltb-false, le-leb, lt-leb}
-use Rattle.std.specs.Prelude.{if◌then◌else◌}
+use Rattle.std.specs.Prelude.{if◌then◌else◌, None, Some}
 use Rattle.octets.specs.Octets.{Octets, is_empty, is_letter, lower, split, front, after, is_blank, trim_end, trim}
 use Rattle.octets.proofs.PartLaws.{front_after}
 use Rattle.octets.proofs.TextLaws.{and_left, true→T, T→true}
@@ -47,7 +46,7 @@ module _ (f : ℕ → Bool) (b : Octets) where
 module _ (s : Octets) where
   no_value : after is_letter s ≡ [] → value_of s ≡ []
   unfolding value_of name_and_value named after
-  no_value q = ap (λ (u : Octets). elim (named (front is_letter s) (after is_blank u)) [ nothing ↦ [] | just t ↦ t.1 ]) q
+  no_value q = ap (λ (u : Octets). elim (named (front is_letter s) (after is_blank u)) [ None ↦ [] | Some t ↦ t.1 ]) q
 
   -- a well-formed tag has a value, so something follows its name
   name_ends : is_tag s ≡ true → is_empty (after is_letter s) ≡ false

@@ -29,7 +29,7 @@ pub fn repeats_unknown(text: &[u8], from: usize) -> bool
         }
         keys[count] = key_of(name_at(text, at));
         places[count] = at;
-        count = count + 1;
+        count += 1;
         at = next_unknown(text, part_after(text, at));
         if ROOM <= count {
             if comes_again(text, &keys, &places, at) {
@@ -56,7 +56,7 @@ fn comes_again(text: &[u8], keys: &[u64; ROOM], places: &[usize; ROOM], from: us
     false
 }
 
-// Whether the name at a place is one of the first `count` stored: only names of equal keys are compared.
+// Whether the name at a place is one of the first `count` stored: only names of equal keys are compared. The last goes first, as the definition has it.
 fn is_stored(
     text: &[u8],
     keys: &[u64; ROOM],
@@ -73,10 +73,8 @@ fn is_stored(
     let mut left = count;
     while 0 < left {
         let last = left - 1;
-        if keys[last] == key {
-            if octets_write::same_text(name_at(text, places[last]), name) {
-                return true;
-            }
+        if keys[last] == key && octets_write::same_text(name_at(text, places[last]), name) {
+            return true;
         }
         left = last;
     }
@@ -88,10 +86,8 @@ fn key_of(name: &[u8]) -> u64
     ensures { result ≡ key_of (lower name.now) }
 {
     let mut key = 0;
-    let mut i = 0;
-    while i < name.len() {
-        key = (key * 32 + name[i] as u64 % 32) % PRIME;
-        i = i + 1;
+    for x in name {
+        key = (key * 32 + u64::from(*x) % 32) % PRIME;
     }
     key
 }
@@ -114,7 +110,7 @@ fn part_after(text: &[u8], at: usize) -> usize
     at + text_front::find_octet(text_parts::skip(text, at), b';') + 1
 }
 
-// Where the first part with an unknown name begins, from a place on; past the text's end where there is none.
+// Where the first part with an unknown name begins, from a place on; past the text's end where there is none, at which each caller's loop ends.
 fn next_unknown(text: &[u8], from: usize) -> usize
     ensures { Next text.now from result }
 {
@@ -133,8 +129,6 @@ fn next_unknown(text: &[u8], from: usize) -> usize
 fn is_unknown(tag: &[u8]) -> bool
     ensures { result ≡ is_unknown tag.now }
 {
-    if policy_tags::tag_value(tag).len() == 0 {
-        return false;
-    }
-    14 <= policy_words::tag_number(text_front::front(tag, Class::Letter))
+    !policy_tags::tag_value(tag).is_empty()
+        && 14 <= policy_words::tag_number(text_front::front(tag, Class::Letter))
 }

@@ -1,42 +1,24 @@
 -- Laws of report addresses.
-use mathlib.Core.Bool.{Bool, true, false, ◌&&◌, ◌||◌, not, and-true, and-false}
-use mathlib.Core.List.{[], ◌∷◌}
+use mathlib.Core.Bool.{Bool, true, false, ◌&&◌, ◌||◌, not, and-true, and-false, and_assoc}
+use mathlib.Core.List.{List, [], ◌∷◌}
 use mathlib.Core.Path.{◌≡◌, refl, ap, sym, ◌∙◌}
-use Prim.Native.Nat.{ℕ, ◌+◌, ◌≤◌, ◌<◌}
+use Prim.Native.Nat.{ℕ, zero, suc, ◌+◌, ◌-◌, ◌≤◌, ◌<◌}
 use native.Mathlib.Omega.{arith}
 use lib.Dec.{eqb}
-use lib.ListN.{length, drop, get_or}
+use lib.ListN.{length, take, drop, get_or, drop_of_length-le}
 use borrow.Author.Tests.{eq-eqb, ne_eqb, eqb-true}
-use Rattle.std.specs.Prelude.{if◌then◌else◌}
-use Rattle.octets.specs.Octets.{Octets, octets, any, between, is_letter, is_digit, one_of, split, front, after, trim_end, trim}
-use Rattle.octets.proofs.PartLaws.{split_first, split_next}
-use Rattle.policy.specs.Reports.{scheme_octet, hex_digit, uri_octet, uri_octets, after_scheme, valid_entry, has_valid_entry}
-use Rattle.policy_reports.specs.code.UriSteps.{hex_pair, uri_step}
+use Rattle.std.specs.List as List
+use Rattle.std.specs.List.{slice_split, list_any, list_all}
+use Rattle.std.specs.Char.{is_ascii_hexdigit}
+use lib.Seq.{drop-cons}
+use Rattle.octets.proofs.LentLaws.{rest_of}
+use Rattle.text_class.specs.code.Classes.{in_class}
+use Rattle.text_class.specs.declared.Class.{Class}
+use native.Mathlib.Numerals.{add-one}
+use Rattle.octets.specs.Octets.{Octets, octets, is_empty, all, any, between, is_letter, is_digit, one_of, onto_first, split, after}
+use Rattle.policy.specs.Reports.{scheme_octet, hex_digit, uri_octet, uri_octets, after_scheme, valid_entry}
 
 -- ------------------------------------------------------------------ the characters of a URI
-
-pub pair_short : (s : Octets) → length s < 2 → false ≡ hex_pair s
-unfolding hex_pair
-pair_short [] h = refl
-pair_short (y ∷ []) h = refl
-pair_short (y ∷ z ∷ s) h = absurd (omega arith)
-
-pub pair_both : (s : Octets) → 2 ≤ length s → hex_pair s ≡ (hex_digit (get_or s 0 0) && hex_digit (get_or s 1 0))
-unfolding hex_pair
-pair_both [] h = absurd (omega arith)
-pair_both (y ∷ []) h = absurd (omega arith)
-pair_both (y ∷ z ∷ s) h = refl
-
-pub step_none : (s : Octets) → length s ≡ 0 → 0 ≡ uri_step s
-unfolding uri_step
-step_none [] h = refl
-step_none (x ∷ s) h = absurd (omega arith)
-
-pub step_some : (s : Octets) → (length s ≡ 0 → ⊥)
-    → uri_step s ≡ (if eqb (get_or s 0 0) 37 then if hex_pair (drop 1 s) then 3 else 0 else if uri_octet (get_or s 0 0) then 1 else 0)
-unfolding uri_step
-step_some [] h = absurd (h refl)
-step_some (x ∷ s) h = refl
 
 -- `%` alone is no URI octet
 percent : (x : ℕ) → eqb x 37 ≡ true → uri_octet x ≡ false
@@ -49,12 +31,18 @@ by_first : (x y z : ℕ) (s : Octets) (b : Bool) → eqb x 37 ≡ b
 unfolding uri_octets
 by_first x y z s b e = ap (λ (c : Bool). elim c as (λ _. Bool) [ true ↦ hex_digit y && hex_digit z && uri_octets s | false ↦ uri_octet x && uri_octets (y ∷ z ∷ s) ]) e
 
+-- what is left of a URI where so many hex digits are due
+abbrev pub owing : ℕ → Octets → Bool
+owing zero s = uri_octets s
+owing (suc n) [] = false
+owing (suc n) (x ∷ s) = hex_digit x && owing n s
+
 module _ (x : ℕ) where
-  escaped : eqb x 37 ≡ true → (s : Octets) → uri_octets (x ∷ s) ≡ (hex_pair s && uri_octets (drop 2 s))
-  unfolding uri_octets hex_pair
+  escaped : eqb x 37 ≡ true → (s : Octets) → uri_octets (x ∷ s) ≡ owing 2 s
+  unfolding uri_octets
   escaped e [] = percent x e
-  escaped e (y ∷ []) = rw (percent x e)
-  escaped e (y ∷ z ∷ s) = by_first x y z s true e
+  escaped e (y ∷ []) = rw (percent x e) (sym (and-false (hex_digit y)))
+  escaped e (y ∷ z ∷ s) = by_first x y z s true e ∙ and_assoc (hex_digit y) (hex_digit z) (uri_octets s)
 
   plain : eqb x 37 ≡ false → (s : Octets) → uri_octets (x ∷ s) ≡ (uri_octet x && uri_octets s)
   unfolding uri_octets
@@ -62,81 +50,91 @@ module _ (x : ℕ) where
   plain e (y ∷ []) = refl
   plain e (y ∷ z ∷ s) = by_first x y z s false e
 
--- what a URI is after its first character, which takes n octets
-goes : ℕ → Octets → Bool
-goes n s = if eqb n 0 then false else uri_octets (drop n s)
+-- an octet of a URI more
+module _ (s : Octets) (i : ℕ) (h : i < length s) where
+  next : drop i s ≡ get_or s i 0 ∷ drop (i + 1) s
+  next = rw (add-one i) (drop-cons s i 0 h)
 
-uri_more : (x : ℕ) (s : Octets) → uri_octets (x ∷ s) ≡ goes (uri_step (x ∷ s)) (x ∷ s)
-unfolding goes uri_step
-uri_more x s = go (eqb x 37) refl
-  where
-    first : (h : Bool) → (h && uri_octets (drop 2 s)) ≡ goes (if h then 3 else 0) (x ∷ s)
-    first true = refl
-    first false = refl
+  pub begins : get_or s i 0 ≡ 37 → owing 0 (drop i s) ≡ owing 2 (drop (i + 1) s)
+  begins e = rw next (escaped (get_or s i 0) (eq-eqb _ _ e) (drop (i + 1) s))
 
-    other : (u : Bool) → (u && uri_octets s) ≡ goes (if u then 1 else 0) (x ∷ s)
-    other true = refl
-    other false = refl
+  pub passes : (get_or s i 0 ≡ 37 → ⊥) → owing 0 (drop i s) ≡ (uri_octet (get_or s i 0) && owing 0 (drop (i + 1) s))
+  passes e = rw next (plain (get_or s i 0) (ne_eqb _ _ e) (drop (i + 1) s))
 
-    go : (b : Bool) → eqb x 37 ≡ b → uri_octets (x ∷ s) ≡ goes (if eqb x 37 then if hex_pair s then 3 else 0 else if uri_octet x then 1 else 0) (x ∷ s)
-    go true e = rw (escaped x e s, e) (first (hex_pair s))
-    go false e = rw (plain x e s, e) (other (uri_octet x))
+  pub owes : (n : ℕ) → 0 < n → owing n (drop i s) ≡ (hex_digit (get_or s i 0) && owing (n - 1) (drop (i + 1) s))
+  owes zero k = absurd (omega arith)
+  owes (suc n) k = let one : suc n - 1 ≡ n = omega arith in rw (next, one)
 
-pub uri_stops : (s : Octets) (n : ℕ) → n ≡ uri_step s → 0 < length s → n ≡ 0 → uri_octets s ≡ false
-unfolding goes
-uri_stops [] n e h z = absurd (omega arith)
-uri_stops (x ∷ s) n e h z = rw (uri_more x s, ← e, z)
+pub hex : (x : ℕ) → hex_digit x ≡ is_ascii_hexdigit x
+unfolding hex_digit is_digit between
+hex x = refl
 
-pub uri_goes : (s : Octets) (n : ℕ) → n ≡ uri_step s → (n ≡ 0 → ⊥) → uri_octets s ≡ uri_octets (drop n s)
-unfolding goes uri_step
-uri_goes [] n e h = absurd (h e)
-uri_goes (x ∷ s) n e h = uri_more x s ∙ ap (λ (m : ℕ). goes m (x ∷ s)) (sym e) ∙ ap (λ (b : Bool). if b then false else uri_octets (drop n (x ∷ s))) (ne_eqb n 0 h)
-
-pub uri_ends : (s : Octets) → length s ≤ 0 → uri_octets s ≡ true
+pub ends : (n : ℕ) (s : Octets) (i : ℕ) → length s ≤ i → owing n (drop i s) ≡ eqb n 0
 unfolding uri_octets
-uri_ends [] h = refl
-uri_ends (x ∷ s) h = absurd (omega arith)
+ends zero s i h = rw (drop_of_length-le s h)
+ends (suc n) s i h = rw (drop_of_length-le s h) (sym (ne_eqb (suc n) 0 (omega arith)))
 
 -- ------------------------------------------------------------------ an entry
 
-pub scheme_short : (s : Octets) → length s < 2 → false ≡ after_scheme s
-unfolding after_scheme
-scheme_short [] h = refl
-scheme_short (c ∷ []) h = rw (and-false (eqb c 58))
-scheme_short (c ∷ x ∷ s) h = absurd (omega arith)
+-- all but the first octet, as a pattern has it
+rest_all : (x : ℕ) (s : Octets) → take (length (x ∷ s) - 1) (drop 1 (x ∷ s)) ≡ s
+rest_all x s = rest_of (x ∷ s) 1
 
-pub scheme_other : (s : Octets) → (get_or s 0 0 ≡ 58 → ⊥) → false ≡ after_scheme s
+pub scheme_none : (s : Octets) → length s < 1 → after_scheme s ≡ false
 unfolding after_scheme
-scheme_other [] h = refl
-scheme_other (c ∷ s) h = rw (ne_eqb c 58 h)
+scheme_none [] h = refl
+scheme_none (x ∷ s) h = absurd (omega arith)
 
-pub scheme_colon : (s : Octets) → 2 ≤ length s → get_or s 0 0 ≡ 58 → uri_octets (drop 1 s) ≡ after_scheme s
+pub scheme_first : (s : Octets) → 1 ≤ length s
+    → after_scheme s ≡ (eqb (get_or s 0 0) 58 && not (eqb (length (take (length s - 1) (drop 1 s))) 0) && uri_octets (take (length s - 1) (drop 1 s)))
 unfolding after_scheme
-scheme_colon [] h e = absurd (omega arith)
-scheme_colon (c ∷ []) h e = absurd (omega arith)
-scheme_colon (c ∷ x ∷ s) h e = rw (eq-eqb c 58 e)
+scheme_first [] h = absurd (omega arith)
+scheme_first (x ∷ s) h = rw (rest_all x s, empty s)
+  where
+    empty : (t : Octets) → is_empty t ≡ eqb (length t) 0
+    empty [] = refl
+    empty (y ∷ t) = sym (ne_eqb (suc (length t)) 0 (omega arith))
 
-pub entry_empty : (s : Octets) → length s ≡ 0 → false ≡ valid_entry s
+pub entry_none : (s : Octets) → length s < 1 → valid_entry s ≡ false
 unfolding valid_entry
-entry_empty [] h = refl
-entry_empty (x ∷ s) h = absurd (omega arith)
+entry_none [] h = refl
+entry_none (x ∷ s) h = absurd (omega arith)
 
-pub entry_first : (s : Octets) → (length s ≡ 0 → ⊥) → valid_entry s ≡ (is_letter (get_or s 0 0) && after_scheme (after scheme_octet (drop 1 s)))
-unfolding valid_entry
-entry_first [] h = absurd (h refl)
-entry_first (x ∷ s) h = refl
+pub entry_first : (s : Octets) → 1 ≤ length s
+    → valid_entry s ≡ (is_letter (get_or s 0 0) && after_scheme (after (in_class (Class.Word 43 45 46)) (take (length s - 1) (drop 1 s))))
+unfolding valid_entry scheme_octet octets
+entry_first [] h = absurd (omega arith)
+entry_first (x ∷ s) h = rw (rest_all x s)
 
 -- ------------------------------------------------------------------ a list of entries
 
-module _ (s p : Octets) (e : p ≡ front (λ x. not (eqb x 44)) s) where
-  pub first_entry : has_valid_entry s ≡ (valid_entry (trim p) || has_valid_entry (drop (length p + 1) s))
-  unfolding has_valid_entry any valid_entry trim trim_end after
-  first_entry =
-      rw (split_first 44 s, ← e)
-      (ap (λ (b : Bool). valid_entry (trim p) || b)
-      (split_next (any (λ l. valid_entry (trim l))) refl 44 s ∙ ap (λ (q : Octets). has_valid_entry (drop (length q + 1) s)) (sym e)))
+-- the entries are the parts that std's `split` gives
+same_first : (x : ℕ) (l : List Octets) → onto_first x l ≡ List.onto_first x l
+unfolding onto_first
+same_first x [] = refl
+same_first x (p ∷ l) = refl
 
-pub no_entry : (s : Octets) → length s ≤ 0 → has_valid_entry s ≡ false
-unfolding has_valid_entry any split valid_entry trim trim_end after
-no_entry [] h = refl
-no_entry (x ∷ s) h = absurd (omega arith)
+parts : (s : Octets) → split 44 s ≡ slice_split (λ b. eqb b 44) s
+unfolding split
+parts [] = refl
+parts (x ∷ s) = go (parts s) (eqb x 44) refl
+  where
+    go : split 44 s ≡ slice_split (λ b. eqb b 44) s → (b : Bool) → eqb x 44 ≡ b → split 44 (x ∷ s) ≡ slice_split (λ c. eqb c 44) (x ∷ s)
+    go ih true e = rw (e, split, ih)
+    go ih false e = rw (e, split, ih, same_first)
+
+any_part : (f : Octets → Bool) (l : List Octets) → any f l ≡ list_any f l
+unfolding any
+any_part f [] = refl
+any_part f (x ∷ l) = ap (λ b. f x || b) (any_part f l)
+
+pub an_entry : (f : Octets → Bool) (s : Octets) → any f (split 44 s) ≡ list_any f (slice_split (λ b. eqb b 44) s)
+an_entry f s = rw (parts s) (any_part f (slice_split (λ b. eqb b 44) s))
+
+all_parts : (f : Octets → Bool) (l : List Octets) → all f l ≡ list_all f l
+unfolding all
+all_parts f [] = refl
+all_parts f (x ∷ l) = ap (λ b. f x && b) (all_parts f l)
+
+pub every_entry : (f : Octets → Bool) (s : Octets) → all f (split 44 s) ≡ list_all f (slice_split (λ b. eqb b 44) s)
+every_entry f s = rw (parts s) (all_parts f (slice_split (λ b. eqb b 44) s))

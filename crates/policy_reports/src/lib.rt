@@ -2,8 +2,7 @@
 #![tactic(auto)]
 
 ghost use Rattle.std.specs.Prelude.{◌≡◌};
-ghost use Rattle.policy.specs.Reports.{hex_digit, uri_octet, uri_octets, after_scheme, valid_entry, has_valid_entry};
-ghost use Rattle.policy_reports.specs.code.UriSteps.{hex_pair, uri_step};
+ghost use Rattle.policy.specs.Reports.{uri_octet, uri_octets, after_scheme, valid_entry, has_valid_entry};
 
 use text_class::Class;
 
@@ -11,115 +10,61 @@ use text_class::Class;
 pub fn has_valid_entry(list: &[u8]) -> bool
     ensures { result ≡ has_valid_entry list.now }
 {
-    let mut t = list;
-    while 0 < t.len() {
-        let entry = text_front::front(t, Class::Not(b','));
-        if is_valid_entry(text_front::trim(entry)) {
-            return true;
-        }
-        let rest = text_parts::skip(t, entry.len() + 1);
-        t = rest;
-    }
-    false
+    list.split(|b| *b == b',')
+        .any(|entry| is_valid_entry(text_front::trim(entry)))
 }
 
 // A scheme, `:`, and a URI's octets.
+#[tactic(auto, using(crate::proofs::ReportLaws::entry_none, crate::proofs::ReportLaws::entry_first))]
 pub fn is_valid_entry(entry: &[u8]) -> bool
     ensures { result ≡ valid_entry entry.now }
 {
-    if entry.len() == 0 {
-        return false;
+    match entry {
+        [first, rest @ ..] => {
+            text_class::is_letter(*first)
+                && is_after_scheme(text_front::after(rest, Class::Word(b'+', b'-', b'.')))
+        }
+        [] => false,
     }
-    if !text_class::is_letter(entry[0]) {
-        return false;
-    }
-    let rest = text_front::after(text_parts::skip(entry, 1), Class::Word(b'+', b'-', b'.'));
-    is_after_scheme(rest)
 }
 
 // `:`, and one or more of a URI's octets.
+#[tactic(auto, using(crate::proofs::ReportLaws::scheme_none, crate::proofs::ReportLaws::scheme_first))]
 fn is_after_scheme(s: &[u8]) -> bool
     ensures { result ≡ after_scheme s.now }
 {
-    if s.len() < 2 {
-        return false;
+    match s {
+        [first, rest @ ..] => *first == b':' && !rest.is_empty() && is_uri(rest),
+        [] => false,
     }
-    if s[0] != b':' {
-        return false;
-    }
-    is_uri(text_parts::skip(s, 1))
 }
 
 // A URI's octets, or `%` with two hex digits, to the end.
 fn is_uri(s: &[u8]) -> bool
     ensures { result ≡ uri_octets s.now }
 {
-    let mut t = s;
-    while 0 < t.len() {
-        let n = uri_step(t);
-        if n == 0 {
+    let mut owed = 0u8;
+    for x in s {
+        if 0 < owed {
+            if !x.is_ascii_hexdigit() {
+                return false;
+            }
+            owed -= 1;
+        } else if *x == b'%' {
+            owed = 2;
+        } else if !is_uri_octet(*x) {
             return false;
         }
-        let rest = text_parts::skip(t, n);
-        t = rest;
     }
-    true
-}
-
-// How many octets a URI's first character takes; 0 where it is none.
-fn uri_step(s: &[u8]) -> usize
-    ensures { result ≡ uri_step s.now }
-{
-    if s.len() == 0 {
-        return 0;
-    }
-    if s[0] == b'%' {
-        if is_hex_pair(text_parts::skip(s, 1)) {
-            return 3;
-        }
-        return 0;
-    }
-    if is_uri_octet(s[0]) {
-        return 1;
-    }
-    0
-}
-
-// Whether two hex digits stand at the front.
-fn is_hex_pair(s: &[u8]) -> bool
-    ensures { result ≡ hex_pair s.now }
-{
-    if s.len() < 2 {
-        return false;
-    }
-    if is_hex_digit(s[0]) {
-        return is_hex_digit(s[1]);
-    }
-    false
-}
-
-// Whether an octet is a hex digit.
-fn is_hex_digit(b: u8) -> bool
-    ensures { result ≡ hex_digit b }
-{
-    if text_class::is_digit(b) {
-        return true;
-    }
-    if text_class::is_between(b, b'A', b'F') {
-        return true;
-    }
-    text_class::is_between(b, b'a', b'f')
+    owed == 0
 }
 
 // An unreserved or reserved octet of RFC 3986, but `!`.
+#[tactic(auto, unfolding(policy::specs::Reports::uri_octet, octets::specs::Octets::octets))]
 fn is_uri_octet(b: u8) -> bool
     ensures { result ≡ uri_octet b }
 {
-    if text_class::is_letter(b) {
-        return true;
-    }
-    if text_class::is_digit(b) {
-        return true;
-    }
-    text_front::is_one_of(b, b"-._~:/?#[]@$&'()*+,;=")
+    text_class::is_letter(b)
+        || text_class::is_digit(b)
+        || text_front::is_one_of(b, b"-._~:/?#[]@$&'()*+,;=")
 }

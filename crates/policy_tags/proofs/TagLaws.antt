@@ -1,37 +1,37 @@
 -- Laws of the tags of a text.
 use mathlib.Core.Bool.{Bool, true, false, ◌&&◌, not, and-false}
 use mathlib.Core.List.{List, [], ◌∷◌, ◌++◌, map, append_assoc, reverse, reverse-append, reverse-reverse}
-use mathlib.Core.Option.{Option, none as nothing, some as just, none-ne-some}
 use mathlib.Core.Path.{◌≡◌, refl, ap, sym, ◌∙◌, subst}
 use Prim.Native.Nat.{ℕ, suc, ◌+◌, ◌-◌, ◌≤◌, ◌<◌}
 use native.Mathlib.Omega.{arith}
-use lib.Dec.{eqb, leb}
+use lib.Dec.{eqb}
 use lib.ListN.{length, drop, get_or, drop_of_length-le, length-append, length-drop}
 use lib.Seq.{drop-drop}
 use borrow.Author.Tests.{eq-eqb, ne_eqb, not-true}
-use Rattle.std.specs.Prelude.{if◌then◌else◌}
+use Rattle.std.specs.Prelude.{if◌then◌else◌, Option, None, Some}
 use Rattle.octets.specs.Octets.{Octets, octets, is_empty, all, same, between, is_letter, lower_octet, lower, split, front, after, is_blank, trim_end, trim}
-use Rattle.octets.proofs.PartLaws.{all_front, front_fits, front_after, next_parts, split_first, split_next}
+use Rattle.octets.proofs.PartLaws.{front_fits, front_after, next_parts, split_first, split_next}
 use Rattle.octets.proofs.TextLaws.{and_left, and_right, true→T, T→true}
 use Rattle.policy.specs.Tags.{Tag, named, name_and_value, is_version, well_formed, tag_of, add_tag, tags_from, has_version, parts}
 use Rattle.policy_tags.specs.code.TagValues.{version, later_parts, tags_at, value_of, is_value}
 use Rattle.policy_tags.specs.code.TagNames.{name_of, is_tag, tag_value, add_name, names_of}
+use Rattle.std.proofs.lemmas.Option.{none-some}
 
 -- ------------------------------------------------------------------ the name and the value of a part
 
 -- the value that was read after a name
 second : Option (Octets × Octets) → Octets
-second o = elim o [ nothing ↦ [] | just t ↦ t.1 ]
+second o = elim o [ None ↦ [] | Some t ↦ t.1 ]
 
 judge : (Octets × Octets → Bool) → Option (Octets × Octets) → Bool
-judge g o = elim o [ nothing ↦ false | just t ↦ g t ]
+judge g o = elim o [ None ↦ false | Some t ↦ g t ]
 
 -- a test that an empty value fails needs not ask whether there is `=`
 judge_named : (g : Octets × Octets → Bool) → ((n : Octets) → g (n, []) ≡ false) → (n u : Octets) → judge g (named n u) ≡ g (lower n, second (named n u))
 unfolding judge named second
 judge_named g h n [] = sym (h (lower n))
 judge_named g h n (x ∷ xs) =
-    elim (eqb x 61) as (λ b. judge g (if b then just (lower n, after is_blank xs) else nothing) ≡ g (lower n, second (if b then just (lower n, after is_blank xs) else nothing))) [
+    elim (eqb x 61) as (λ b. judge g (if b then Some (lower n, after is_blank xs) else None) ≡ g (lower n, second (if b then Some (lower n, after is_blank xs) else None))) [
       | true ↦ refl
       | false ↦ sym (h (lower n))
     ]
@@ -48,7 +48,7 @@ version_part s = judge_part (λ t. same t.0 (octets "v") && same t.1 (octets "DM
 -- ------------------------------------------------------------------ the value
 
 module _ (n : Octets) where
-  second_none : (u : Octets) → length u ≡ 0 → u ≡ second (named n u)
+  second_none : (u : Octets) → length u < 1 → [] ≡ second (named n u)
   unfolding second named
   second_none [] h = refl
   second_none (x ∷ u) h = absurd (omega arith)
@@ -68,7 +68,7 @@ module _ (s u : Octets) (e : u ≡ after is_blank (after is_letter s)) where
   unfolding value_of name_and_value second
   opened = ap (λ (w : Octets). second (named (front is_letter s) w)) e
 
-  pub value_none : length u ≡ 0 → u ≡ value_of s
+  pub value_none : length u < 1 → [] ≡ value_of s
   value_none h = second_none (front is_letter s) u h ∙ opened
 
   pub value_other : (length u ≡ 0 → ⊥) → (get_or u 0 0 ≡ 61 → ⊥) → [] ≡ value_of s
@@ -78,17 +78,6 @@ module _ (s u : Octets) (e : u ≡ after is_blank (after is_letter s)) where
   value_found p h = second_found (front is_letter s) u p h ∙ opened
 
 -- ------------------------------------------------------------------ a well-formed tag
-
--- a value all of whose octets are 32 to 126
-pub value_empty : (v : Octets) → length v ≡ 0 → false ≡ is_value v
-unfolding is_value
-value_empty [] h = refl
-value_empty (x ∷ v) h = absurd (omega arith)
-
-pub value_all : (v : Octets) → (length v ≡ 0 → ⊥) → is_value v ≡ leb (length v) (length (front (between 32 126) v))
-unfolding is_value
-value_all [] h = absurd (h refl)
-value_all (x ∷ v) h = all_front (between 32 126) (x ∷ v)
 
 -- a part's value, by the tests of its name and its value
 module _ (s : Octets) where
@@ -140,23 +129,23 @@ unfolding End
 end_cons x a b p = (x ∷ p.0, ap (λ l. x ∷ l) p.1)
 
 -- a value is the end of what it was read from
-end_named : (n s : Octets) (t : Octets × Octets) → named n s ≡ just t → End t.1 s
+end_named : (n s : Octets) (t : Octets × Octets) → named n s ≡ Some t → End t.1 s
 unfolding named second
-end_named n [] t e = absurd (none-ne-some t e)
+end_named n [] t e = absurd (none-some t e)
 end_named n (x ∷ xs) t e =
-    (elim (eqb x 61) as (λ b. (if b then just (lower n, after is_blank xs) else nothing) ≡ just t → End t.1 (x ∷ xs)) [
+    (elim (eqb x 61) as (λ b. (if b then Some (lower n, after is_blank xs) else None) ≡ Some t → End t.1 (x ∷ xs)) [
       | true ↦ λ h. subst (λ v. End v (x ∷ xs)) (ap second h) (end_cons x (after is_blank xs) xs (end_after is_blank xs))
-      | false ↦ λ h. absurd (none-ne-some t h)
+      | false ↦ λ h. absurd (none-some t h)
     ]) e
 
-end_value : (s : Octets) (t : Octets × Octets) → name_and_value s ≡ just t → End t.1 s
+end_value : (s : Octets) (t : Octets × Octets) → name_and_value s ≡ Some t → End t.1 s
 unfolding name_and_value
 end_value s t e =
     end_trans t.1 (after is_blank (after is_letter s)) s (end_named (front is_letter s) (after is_blank (after is_letter s)) t e)
     (end_trans (after is_blank (after is_letter s)) (after is_letter s) s (end_after is_blank (after is_letter s)) (end_after is_letter s))
 
 -- and so of the part, with the blanks before it
-pub end_part : (p : Octets) (t : Octets × Octets) → name_and_value (trim p) ≡ just t → End t.1 (trim_end p)
+pub end_part : (p : Octets) (t : Octets × Octets) → name_and_value (trim p) ≡ Some t → End t.1 (trim_end p)
 unfolding trim
 end_part p t e = end_trans t.1 (trim p) (trim_end p) (end_value (trim p) t e) (end_after is_blank (trim_end p))
 
@@ -188,8 +177,8 @@ value_fits p = elim (is_tag (trim p)) as (λ b. length {A = ℕ} (if b then valu
 ]
   where
     go : (o : Option (Octets × Octets)) → name_and_value (trim p) ≡ o → length {A = ℕ} (second o) ≤ length (trim_end p)
-    go nothing e = omega arith
-    go (just t) e = let w = end_part p t e in omega (arith, ap length w.1, length-append w.0 t.1)
+    go None e = omega arith
+    go (Some t) e = let w = end_part p t e in omega (arith, ap length w.1, length-append w.0 t.1)
 
 -- ------------------------------------------------------------------ the tags and the names of the parts in turn
 
@@ -210,18 +199,18 @@ made_tag at p = record { name = name_of (trim p); value = value_of (trim p); pla
 
 module _ (at : ℕ) (p : Octets) where
   given : Octets → Octets → Option Tag
-  given m v = if well_formed (m, v) then just (record { name = m; value = v; place = at + (length (trim_end p) - length v) }) else nothing
+  given m v = if well_formed (m, v) then Some (record { name = m; value = v; place = at + (length (trim_end p) - length v) }) else None
 
   tag_given : (n u : Octets) → tag_of at p (named n u) ≡ given (lower n) (second (named n u))
   unfolding tag_of named second given
   tag_given n [] = rw (unvalued (lower n))
   tag_given n (x ∷ xs) =
-      elim (eqb x 61) as (λ b. tag_of at p (if b then just (lower n, after is_blank xs) else nothing) ≡ given (lower n) (second (if b then just (lower n, after is_blank xs) else nothing))) [
+      elim (eqb x 61) as (λ b. tag_of at p (if b then Some (lower n, after is_blank xs) else None) ≡ given (lower n) (second (if b then Some (lower n, after is_blank xs) else None))) [
         | true ↦ refl
         | false ↦ rw (unvalued (lower n))
       ]
 
-  pub tag_part : tag_of at p (name_and_value (trim p)) ≡ (if is_tag (trim p) then just (made_tag at p) else nothing)
+  pub tag_part : tag_of at p (name_and_value (trim p)) ≡ (if is_tag (trim p) then Some (made_tag at p) else None)
   unfolding is_tag made_tag name_of value_of name_and_value second given
   tag_part = tag_given (front is_letter (trim p)) (after is_blank (after is_letter (trim p)))
 
@@ -233,7 +222,7 @@ names_tags at (p ∷ ps) = rw (tag_part at p) (go (is_tag (trim p)) refl (names_
     rest : List Tag
     rest = tags_from (at + suc (length p)) ps
 
-    go : (b : Bool) → is_tag (trim p) ≡ b → map (λ t. t.name) rest ≡ names_of ps → map (λ t. t.name) (add_tag (if is_tag (trim p) then just (made_tag at p) else nothing) rest) ≡ add_name (trim p) (names_of ps)
+    go : (b : Bool) → is_tag (trim p) ≡ b → map (λ t. t.name) rest ≡ names_of ps → map (λ t. t.name) (add_tag (if is_tag (trim p) then Some (made_tag at p) else None) rest) ≡ add_name (trim p) (names_of ps)
     go true e ih = rw e (ap (λ (ns : List Octets). name_of (trim p) ∷ ns) ih)
     go false e ih = rw e ih
 
@@ -301,10 +290,10 @@ module _ (s p : Octets) (e : p ≡ front (λ x. not (eqb x 59)) s) where
   unfolding has_version parts
   version_first = rw (split_first 59 s, e)
 
-  pub starts : is_version p ≡ true → length p + 1 ≡ later_parts s
+  pub starts : is_version p ≡ true → Some (length p + 1) ≡ later_parts s
   unfolding later_parts
-  starts v = rw (version_first ∙ v) (ap (λ (l : Octets). length l + 1) e)
+  starts v = rw (version_first ∙ v) (ap (λ (l : Octets). Some (length l + 1)) e)
 
-  pub no_start : is_version p ≡ false → 0 ≡ later_parts s
+  pub no_start : is_version p ≡ false → None ≡ later_parts s
   unfolding later_parts
   no_start v = rw (version_first ∙ v)

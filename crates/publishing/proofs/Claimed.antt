@@ -1,8 +1,8 @@
 -- What is claimed of written policy records.
+use Rattle.std.specs.Prelude.{Some, Option, None}
 use mathlib.Core.Path.{◌≡◌, refl, ap, sym, ◌∙◌}
 use mathlib.Core.List.{List, []}
 use mathlib.Core.Bool.{Bool, true, false, ◌&&◌, not}
-use mathlib.Core.Option.{Option, none as nothing, some as just}
 use lib.Dec.{T}
 use borrow.Author.Tests.{not-false}
 use Rattle.octets.specs.Octets.{Octets, octets, all, same}
@@ -14,7 +14,6 @@ use Rattle.policy.specs.Reports.{has_valid_entry}
 use Rattle.policy.specs.Records.{read, settings, record_of, read_policy, rua_of, rua_text}
 use Rattle.policy.specs.declared.Setting.{Setting}
 use Rattle.policy.specs.declared.Settings.{Settings}
-use Rattle.policy.specs.declared.Reading.{Reading}
 use Rattle.policy.proofs.Computing.{policy_computes}
 use Rattle.force.specs.InForce.{is_set, is_absent, usable}
 use Rattle.publishing.specs.Publishing.{tag_values, record_octets, good_rua, written_record}
@@ -43,7 +42,7 @@ module _ (s : Settings) (rua : Octets) (g : good_rua rua ≡ true) where
   good : T (all good_tag (tag_values s rua))
   good = true→T (all_good s rua g)
 
-  tags_written : tags (record_octets s rua) ≡ just later
+  tags_written : tags (record_octets s rua) ≡ Some later
   unfolding policy_computes later tag_values names record_octets
   tags_written = rw (parts_of (tag_values s rua) _ good refl, names_once 9 (tag_values s rua) good refl)
 
@@ -56,7 +55,7 @@ module _ (s : Settings) (rua : Octets) (g : good_rua rua ≡ true) where
   reads_written : usable s ≡ true → Reads (record_octets s rua) (beside rua s) rua
   unfolding read_policy record_of rua_text rua_of later said tag_values octets same
   reads_written u = record {
-    settings = rw tags_written (ap Reading.Record (settings_written u));
+    settings = rw tags_written (ap Some (settings_written u));
     addresses = rw tags_written (said_back 9 (tag_values s rua) good [] (λ v. v) (octets "rua") ∙ rua_back rua);
   }
 
@@ -76,29 +75,29 @@ reads_back s rua text h =
     rw (← e) (reads_written s rua g u)
 
 -- a record's settings agree with its rua text on whether there is a valid entry
-beside_own : (old : Octets) (s : Settings) → read_policy old ≡ Reading.Record s → beside (rua_text old) s ≡ s
+beside_own : (old : Octets) (s : Settings) → read_policy old ≡ Some s → beside (rua_text old) s ≡ s
 unfolding policy_computes beside
 beside_own old s h = go (tags old) h
   where
     agree : (o : Option Tag) → has_valid_entry (read [] (λ v. v) o) ≡ read false has_valid_entry o
-    agree nothing = refl
-    agree (just t) = refl
+    agree None = refl
+    agree (Some t) = refl
 
-    go : (o : Option (List Tag)) → record_of o ≡ Reading.Record s → beside (read [] (λ v. v) (rua_of o)) s ≡ s
-    go nothing e = absurd (true→T {b = false} (cc e))
-    go (just ts) e =
+    go : (o : Option (List Tag)) → record_of o ≡ Some s → beside (read [] (λ v. v) (rua_of o)) s ≡ s
+    go None e = absurd (true→T {b = false} (cc e))
+    go (Some ts) e =
         let own : settings ts ≡ s = cc e in
         rw (← own, agree (tag_named (octets "rua") ts))
 
-same_settings : (old : Octets) (s : Settings) → read_policy old ≡ Reading.Record s → usable s ≡ true → good_rua (rua_text old) ≡ true
+same_settings : (old : Octets) (s : Settings) → read_policy old ≡ Some s → usable s ≡ true → good_rua (rua_text old) ≡ true
     → (new : Octets) × (written_record s (rua_text old) ≡ ok new) × Reads new s (rua_text old)
 unfolding written_record refuse_if ◌>>=◌
 same_settings old s r u g =
     let back = reads_written s (rua_text old) g u in
-    (record_octets s (rua_text old), rw (u, g), record { settings = back.settings ∙ ap Reading.Record (beside_own old s r); addresses = back.addresses })
+    (record_octets s (rua_text old), rw (u, g), record { settings = back.settings ∙ ap Some (beside_own old s r); addresses = back.addresses })
 
-no_octet : (old new : Octets) (s again : Settings) → read_policy old ≡ Reading.Record s → written_record s (rua_text old) ≡ ok new
-    → read_policy new ≡ Reading.Record again → written_record again (rua_text new) ≡ ok new
+no_octet : (old new : Octets) (s again : Settings) → read_policy old ≡ Some s → written_record s (rua_text old) ≡ ok new
+    → read_policy new ≡ Some again → written_record again (rua_text new) ≡ ok new
 unfolding written_record beside usable record_octets tag_values
 no_octet old new s again _ h r =
     let back = reads_back s (rua_text old) new h in

@@ -2,14 +2,13 @@
 use mathlib.Core.Path.{◌≡◌, refl, ap, sym, ◌∙◌}
 use mathlib.Core.List.{List, [], ◌∷◌, ◌++◌, map, flatten, append_assoc, append-nil}
 use mathlib.Core.Bool.{Bool, true, false, ◌&&◌, not, and-false}
-use mathlib.Core.Option.{some as just}
 use Prim.Native.Nat.{ℕ, suc, ◌+◌, ◌-◌, ◌<◌}
 use Prim.Native.String.{String}
 use native.Mathlib.Omega.{arith}
 use lib.Dec.{T, eqb}
 use lib.ListN.{length}
 use borrow.Author.Tests.{not-true}
-use Rattle.std.specs.Prelude.{if◌then◌else◌}
+use Rattle.std.specs.Prelude.{if◌then◌else◌, Some}
 use Rattle.octets.specs.Octets.{Octets, octets, is_empty, all, any, one_of, same, between, is_letter, lower, split, after, is_blank, trim_end, trim}
 use Rattle.octets.proofs.ListLaws.{any_append, neither}
 use Rattle.octets.proofs.TextLaws.{and_left, and_right, T→true, true→T, same→eq}
@@ -88,12 +87,12 @@ module _ (n v : Octets) (gn : Name n) (gv : Value v) (some : is_empty v ≡ fals
       ∙ ap (after is_blank) (append_assoc n (61 ∷ []) v)
       ∙ after_more is_blank n (61 ∷ v) (some_octet n (not-true (is_empty n) gn.some_letter)) (no_first n gn.value.trims)
 
-  reads : name_and_value (trim (tag_part n v)) ≡ just (n, v)
+  reads : name_and_value (trim (tag_part n v)) ≡ Some (n, v)
   unfolding name_and_value named after is_blank one_of any is_letter between
   reads = rw (part_trims, front_to is_letter 61 n v refl gn.letters, after_to is_letter 61 n v refl gn.letters, gn.low, no_first v gv.trims)
 
   tag_reads : (at : ℕ) → tag_of at (tag_part n v) (name_and_value (trim (tag_part n v)))
-      ≡ just (record { name = n; value = v; place = at + (length (trim_end (tag_part n v)) - length v) })
+      ≡ Some (record { name = n; value = v; place = at + (length (trim_end (tag_part n v)) - length v) })
   unfolding tag_of well_formed
   tag_reads at = rw (reads, tag_of, gn.some_letter, some, gv.printable)
 

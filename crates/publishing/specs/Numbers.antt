@@ -1,11 +1,10 @@
 -- Settings by numbers, as programs in other languages hand them over and get them.
-use Rattle.std.specs.Prelude.{◌≡◌, [], ◌∷◌, Bool, true, false, ℕ, get_or}
+use Rattle.std.specs.Prelude.{◌≡◌, [], ◌∷◌, Bool, true, false, ℕ, get_or, Option, Some, None}
 use Rattle.policy.specs.declared.Policy.{Policy}
 use Rattle.policy.specs.declared.Setting.{Setting}
 use Rattle.policy.specs.declared.Mode.{Mode}
 use Rattle.policy.specs.declared.Psd.{Psd}
 use Rattle.policy.specs.declared.Settings.{Settings}
-use Rattle.policy.specs.declared.Reading.{Reading}
 use Rattle.policy.specs.declared.Bounds.{Bounds}
 use Rattle.publishing.specs.declared.RecordNumbers.{RecordNumbers}
 use Rattle.publishing.specs.declared.RecordRead.{RecordRead}
@@ -75,15 +74,15 @@ numbers_of s = record {
 -- ------------------------------------------------------------------ answers
 
 -- all 0 where a text is no policy record
-unfoldable pub read_numbers : Reading → Bounds → RecordRead
-read_numbers Reading.NoRecord b = record {
+unfoldable pub read_numbers : Option Settings → Bounds → RecordRead
+read_numbers None b = record {
   is_record = false;
   numbers = record { p = 0; sp = 0; np = 0; adkim = 0; aspf = 0; psd = 0; t = 0 };
   reports = false;
   rua_begin = 0;
   rua_length = 0;
 }
-read_numbers (Reading.Record s) b = record {
+read_numbers (Some s) b = record {
   is_record = true;
   numbers = numbers_of s;
   reports = s.reports;

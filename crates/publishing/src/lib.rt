@@ -3,7 +3,7 @@
 #![tactic(auto)]
 
 #[repr(C)]
-#[derive(Clone, Copy)]
+#[derive(Clone, Copy, Default)]
 pub struct RecordNumbers {
     pub p: u8,
     pub sp: u8,
@@ -16,7 +16,7 @@ pub struct RecordNumbers {
 
 // What reading gave: whether the text is a policy record, its settings, whether rua has a valid entry, and where the rua text stands.
 #[repr(C)]
-#[derive(Clone, Copy)]
+#[derive(Clone, Copy, Default)]
 pub struct RecordRead {
     pub is_record: bool,
     pub numbers: RecordNumbers,

@@ -2,59 +2,50 @@
 #![tactic(auto)]
 
 ghost use Rattle.std.specs.Prelude.{◌≡◌};
-ghost use Rattle.publishing.specs.Numbers.{setting_in, mode_in, psd_in, testing_in, settings_in, setting_number, mode_number, psd_number, testing_number, numbers_of, read_numbers};
+ghost use Rattle.publishing.specs.Numbers.{setting_in, mode_in, psd_in, settings_in, setting_number, mode_number, psd_number, numbers_of, read_numbers};
 
-use policy::{Bounds, Mode, Policy, Psd, Reading, Setting, Settings};
+use policy::{Bounds, Mode, Policy, Psd, Setting, Settings};
 use publishing::{RecordNumbers, RecordRead};
 
-// What the numbers stand for, and last what any other number does.
-const SETTINGS: [Setting; 5] = [
-    Setting::Set(Policy::None),
-    Setting::Set(Policy::Quarantine),
-    Setting::Set(Policy::Reject),
-    Setting::Absent,
-    Setting::Invalid,
-];
-
-const MODES: [Mode; 3] = [Mode::Relaxed, Mode::Strict, Mode::Relaxed];
-
-const PSDS: [Psd; 4] = [Psd::Unset, Psd::Yes, Psd::No, Psd::Unset];
-
-const TESTINGS: [bool; 3] = [false, true, false];
-
 // The setting of p, sp or np.
+#[tactic(auto, using(crate::proofs::NumberLaws::setting_rest), unfolding(publishing::specs::Numbers::setting_in))]
 fn setting_in(n: u8) -> Setting
     ensures { result ≡ setting_in n }
 {
-    let at = text_parts::smaller(n as usize, 4);
-    SETTINGS[at]
+    match n {
+        0 => Setting::Set(Policy::None),
+        1 => Setting::Set(Policy::Quarantine),
+        2 => Setting::Set(Policy::Reject),
+        3 => Setting::Absent,
+        _ => Setting::Invalid,
+    }
 }
 
 // The mode of adkim or aspf.
+#[tactic(auto, using(crate::proofs::NumberLaws::mode_rest), unfolding(publishing::specs::Numbers::mode_in))]
 fn mode_in(n: u8) -> Mode
     ensures { result ≡ mode_in n }
 {
-    let at = text_parts::smaller(n as usize, 2);
-    MODES[at]
+    match n {
+        1 => Mode::Strict,
+        _ => Mode::Relaxed,
+    }
 }
 
 // The setting of psd.
+#[tactic(auto, using(crate::proofs::NumberLaws::psd_rest), unfolding(publishing::specs::Numbers::psd_in))]
 fn psd_in(n: u8) -> Psd
     ensures { result ≡ psd_in n }
 {
-    let at = text_parts::smaller(n as usize, 3);
-    PSDS[at]
-}
-
-// The setting of t.
-fn testing_in(n: u8) -> bool
-    ensures { result ≡ testing_in n }
-{
-    let at = text_parts::smaller(n as usize, 2);
-    TESTINGS[at]
+    match n {
+        1 => Psd::Yes,
+        2 => Psd::No,
+        _ => Psd::Unset,
+    }
 }
 
 // The settings of numbers.
+#[tactic(auto, using(crate::proofs::NumberLaws::testing_is), unfolding(publishing::specs::Numbers::settings_in))]
 pub fn settings_in(n: RecordNumbers) -> Settings
     ensures { result ≡ settings_in n }
 {
@@ -65,27 +56,27 @@ pub fn settings_in(n: RecordNumbers) -> Settings
         adkim: mode_in(n.adkim),
         aspf: mode_in(n.aspf),
         psd: psd_in(n.psd),
-        t: testing_in(n.t),
+        t: n.t == 1,
         reports: false,
     }
 }
 
 // The number of p, sp or np.
+#[tactic(auto, unfolding(publishing::specs::Numbers::setting_number))]
 fn setting_number(s: Setting) -> u8
     ensures { result ≡ setting_number s }
 {
     match s {
-        Setting::Set(p) => match p {
-            Policy::None => 0,
-            Policy::Quarantine => 1,
-            Policy::Reject => 2,
-        },
+        Setting::Set(Policy::None) => 0,
+        Setting::Set(Policy::Quarantine) => 1,
+        Setting::Set(Policy::Reject) => 2,
         Setting::Absent => 3,
         Setting::Invalid => 4,
     }
 }
 
 // The number of adkim or aspf.
+#[tactic(auto, unfolding(publishing::specs::Numbers::mode_number))]
 fn mode_number(m: Mode) -> u8
     ensures { result ≡ mode_number m }
 {
@@ -96,6 +87,7 @@ fn mode_number(m: Mode) -> u8
 }
 
 // The number of psd.
+#[tactic(auto, unfolding(publishing::specs::Numbers::psd_number))]
 fn psd_number(p: Psd) -> u8
     ensures { result ≡ psd_number p }
 {
@@ -106,58 +98,30 @@ fn psd_number(p: Psd) -> u8
     }
 }
 
-// The number of t.
-fn testing_number(t: bool) -> u8
-    ensures { result ≡ testing_number t }
-{
-    if t {
-        return 1;
-    }
-    0
-}
-
 // The numbers of settings.
+#[tactic(auto, using(crate::proofs::NumberLaws::testing_from), unfolding(publishing::specs::Numbers::numbers_of))]
 fn numbers_of(s: Settings) -> RecordNumbers
     ensures { result ≡ numbers_of s }
 {
-    let p = s.p;
-    let sp = s.sp;
-    let np = s.np;
-    let adkim = s.adkim;
-    let aspf = s.aspf;
-    let psd = s.psd;
     RecordNumbers {
-        p: setting_number(p),
-        sp: setting_number(sp),
-        np: setting_number(np),
-        adkim: mode_number(adkim),
-        aspf: mode_number(aspf),
-        psd: psd_number(psd),
-        t: testing_number(s.t),
+        p: setting_number(s.p),
+        sp: setting_number(s.sp),
+        np: setting_number(s.np),
+        adkim: mode_number(s.adkim),
+        aspf: mode_number(s.aspf),
+        psd: psd_number(s.psd),
+        t: u8::from(s.t),
     }
 }
 
-// What reading gave.
-pub fn read_numbers(r: Reading, b: Bounds) -> RecordRead
+// What reading gave: all 0 where the text is no policy record.
+#[tactic(auto, unfolding(publishing::specs::Numbers::read_numbers))]
+pub fn read_numbers(r: Option<Settings>, b: Bounds) -> RecordRead
     ensures { result ≡ read_numbers r b }
 {
     match r {
-        Reading::NoRecord => RecordRead {
-            is_record: false,
-            numbers: RecordNumbers {
-                p: 0,
-                sp: 0,
-                np: 0,
-                adkim: 0,
-                aspf: 0,
-                psd: 0,
-                t: 0,
-            },
-            reports: false,
-            rua_begin: 0,
-            rua_length: 0,
-        },
-        Reading::Record(s) => RecordRead {
+        None => RecordRead::default(),
+        Some(s) => RecordRead {
             is_record: true,
             numbers: numbers_of(s),
             reports: s.reports,

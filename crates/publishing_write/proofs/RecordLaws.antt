@@ -1,4 +1,5 @@
 -- What is answered and left, test by test.
+use Rattle.std.specs.Prelude.{Result, Ok, Err}
 use mathlib.Core.Path.{◌≡◌, sym, ◌∙◌}
 use mathlib.Core.List.{[], ◌∷◌, flatten}
 use mathlib.Core.Bool.{Bool, true, false, ◌&&◌, not}
@@ -12,7 +13,6 @@ use borrow.Author.Tests.{not-true, not-false}
 use Rattle.octets.specs.Octets.{Octets, octets, all, one_of, same, between, split, trim}
 use Rattle.octets.specs.Refusing.{◌>>=◌, refusal, refuse_if}
 use Rattle.octets.specs.Lent.{Writes, WritesIf, written_if, left_if}
-use Rattle.octets.specs.declared.Written.{Written}
 use Rattle.octets.proofs.TextLaws.{and_right, true→T}
 use Rattle.octets.proofs.LentLaws.{refuses}
 use Rattle.octets_append.proofs.AppendLaws.{appends_whole}
@@ -25,6 +25,7 @@ use Rattle.policy.specs.declared.Settings.{Settings}
 use Rattle.force.specs.InForce.{usable}
 use Rattle.publishing.specs.Publishing.{setting_value, mode_value, psd_value, testing_value, tag_values, tag_text, record_octets, good_entries, good_rua, written_record}
 use Rattle.octets_pieces.specs.code.Putting.{Puts}
+use Rattle.octets.specs.declared.Refusal.{Refusal}
 
 -- ------------------------------------------------------------------ what can be written is short
 
@@ -91,7 +92,7 @@ record_short s rua h =
 -- ------------------------------------------------------------------ the promise, by the tests that the code makes
 
 module _ (s : Settings) (rua before : Octets) {yes good : Bool} (u : yes ≡ usable s) (g : good ≡ good_rua rua) where
-  pub not_usable : not yes ≡ true → {answer : Written} → answer ≡ Written.Refused (refusal 15 0) → WritesIf (written_record s rua) before answer before
+  pub not_usable : not yes ≡ true → {answer : Result ℕ Refusal} → answer ≡ Err (refusal 15 0) → WritesIf (written_record s rua) before answer before
   unfolding written_record refuse_if ◌>>=◌ written_if left_if
   not_usable h e = let no = sym u ∙ not-true yes h in record { answers = e ∙ rw no; leaves = rw no }
 
@@ -99,7 +100,7 @@ module _ (s : Settings) (rua before : Octets) {yes good : Bool} (u : yes ≡ usa
     is_usable : usable s ≡ true
     is_usable = sym u ∙ not-false yes h
 
-    pub not_allowed : not good ≡ true → {answer : Written} → answer ≡ Written.Refused (refusal 16 0) → WritesIf (written_record s rua) before answer before
+    pub not_allowed : not good ≡ true → {answer : Result ℕ Refusal} → answer ≡ Err (refusal 16 0) → WritesIf (written_record s rua) before answer before
     unfolding written_record refuse_if ◌>>=◌ written_if left_if
     not_allowed k e = let no = sym g ∙ not-true good k in record { answers = e ∙ rw (is_usable, no); leaves = rw (is_usable, no) }
 
@@ -111,12 +112,12 @@ module _ (s : Settings) (rua before : Octets) {yes good : Bool} (u : yes ≡ usa
       counted : needed ≡ length (record_octets s rua)
       counted = q.counts (omega (arith, record_short s rua (rua_short rua is_good))) ∙ zero-add (length (record_octets s rua))
 
-      by : {answer : Written} {after : Octets} → Writes (record_octets s rua) before answer after → WritesIf (written_record s rua) before answer after
+      by : {answer : Result ℕ Refusal} {after : Octets} → Writes (record_octets s rua) before answer after → WritesIf (written_record s rua) before answer after
       unfolding written_record refuse_if ◌>>=◌ written_if left_if
       by w = record { answers = w.answers ∙ rw (is_usable, is_good); leaves = w.leaves ∙ rw (is_usable, is_good) }
 
-      pub too_long : length before < needed → {answer : Written} → answer ≡ Written.Refused (refusal 10 needed) → WritesIf (written_record s rua) before answer before
+      pub too_long : length before < needed → {answer : Result ℕ Refusal} → answer ≡ Err (refusal 10 needed) → WritesIf (written_record s rua) before answer before
       too_long l {answer} e = by (refuses (record_octets s rua) before (omega (arith, l, counted)) needed counted answer e)
 
-      pub wrote : needed ≤ length before → {next : ℕ} {after : Octets} → Puts (record_octets s rua) 0 before next after → WritesIf (written_record s rua) before (Written.Wrote next) after
+      pub wrote : needed ≤ length before → {next : ℕ} {after : Octets} → Puts (record_octets s rua) 0 before next after → WritesIf (written_record s rua) before (Ok next) after
       wrote l p = let room : length (record_octets s rua) ≤ length before = omega (arith, l, counted) in by (appends_whole (record_octets s rua) before room (p.appends (omega (arith, room))))

@@ -8,28 +8,27 @@ ghost use Rattle.publishing.specs.Publishing.{tag_text, record_octets, written_r
 ghost use Rattle.octets_pieces.specs.code.Putting.{Puts};
 ghost use Rattle.publishing_write.specs.code.TagWords.{setting_word, mode_word, psd_word, testing_word, value_words, tag_words, tags_from};
 
-use octets::{Refusal, Written};
+use octets::Refusal;
 use policy::{Mode, Policy, Psd, Setting, Settings};
 
-// The number of no word: the tag is left out.
+// The number of no word, and the tag is left out. A number past the table is none for `put_words` too, so an `Option` is no plainer.
 const NO_WORD: u8 = 25;
 
 // The number of the word of p, sp or np.
+#[tactic(auto, unfolding(crate::specs::code::TagWords::setting_word))]
 fn setting_word(s: Setting) -> u8
     ensures { result ≡ setting_word s }
 {
     match s {
-        Setting::Set(p) => match p {
-            Policy::None => 14,
-            Policy::Quarantine => 15,
-            Policy::Reject => 16,
-        },
-        Setting::Absent => NO_WORD,
-        Setting::Invalid => NO_WORD,
+        Setting::Set(Policy::None) => 14,
+        Setting::Set(Policy::Quarantine) => 15,
+        Setting::Set(Policy::Reject) => 16,
+        Setting::Absent | Setting::Invalid => NO_WORD,
     }
 }
 
 // The number of the word of adkim or aspf: r is the default.
+#[tactic(auto, unfolding(crate::specs::code::TagWords::mode_word))]
 fn mode_word(m: Mode) -> u8
     ensures { result ≡ mode_word m }
 {
@@ -40,6 +39,7 @@ fn mode_word(m: Mode) -> u8
 }
 
 // The number of the word of psd: u is the default.
+#[tactic(auto, unfolding(crate::specs::code::TagWords::psd_word))]
 fn psd_word(p: Psd) -> u8
     ensures { result ≡ psd_word p }
 {
@@ -51,32 +51,25 @@ fn psd_word(p: Psd) -> u8
 }
 
 // The number of the word of t: n is the default.
+#[tactic(auto, unfolding(crate::specs::code::TagWords::testing_word))]
 fn testing_word(t: bool) -> u8
     ensures { result ≡ testing_word t }
 {
-    if t {
-        return 19;
-    }
-    NO_WORD
+    if t { 19 } else { NO_WORD }
 }
 
 // The numbers of the words of p, sp, np, adkim, aspf, psd and t, which stand in the order of the tags' own numbers.
+#[tactic(auto, unfolding(crate::specs::code::TagWords::value_words))]
 fn value_words(s: Settings) -> [u8; 7]
     ensures { result ≡ value_words s }
 {
-    let p = s.p;
-    let sp = s.sp;
-    let np = s.np;
-    let adkim = s.adkim;
-    let aspf = s.aspf;
-    let psd = s.psd;
     [
-        setting_word(p),
-        setting_word(sp),
-        setting_word(np),
-        mode_word(adkim),
-        mode_word(aspf),
-        psd_word(psd),
+        setting_word(s.p),
+        setting_word(s.sp),
+        setting_word(s.np),
+        mode_word(s.adkim),
+        mode_word(s.aspf),
+        psd_word(s.psd),
         testing_word(s.t),
     ]
 }
@@ -86,10 +79,10 @@ fn put_tag(name: u8, value: u8, at: usize, out: &mut [u8]) -> usize
     ensures { Puts (tag_words name value) at out.old result out.new }
 {
     if NO_WORD <= value {
-        return at;
+        at
+    } else {
+        policy_words::put_words(&[23, name, 24, value], at, out)
     }
-    let list = [23, name, 24, value];
-    policy_words::put_words(&list, at, out)
 }
 
 // The seven tags before rua.
@@ -97,11 +90,8 @@ fn put_tags(values: [u8; 7], at: usize, out: &mut [u8]) -> usize
     ensures { Puts (tags_from 0 values) at out.old result out.new }
 {
     let mut end = at;
-    let mut name = 0u8;
-    while name < 7 {
-        let next = put_tag(name, values[name as usize], end, out);
-        end = next;
-        name = name + 1;
+    for name in 0..7 {
+        end = put_tag(name, values[usize::from(name)], end, out);
     }
     end
 }
@@ -110,12 +100,12 @@ fn put_tags(values: [u8; 7], at: usize, out: &mut [u8]) -> usize
 fn put_rua(rua: &[u8], at: usize, out: &mut [u8]) -> usize
     ensures { Puts (tag_text ("rua", rua.now)) at out.old result out.new }
 {
-    if rua.len() == 0 {
-        return at;
+    if rua.is_empty() {
+        at
+    } else {
+        let begin = policy_words::put_words(&[23, 7, 24], at, out);
+        octets_pieces::put(rua, begin, out)
     }
-    let list = [23, 7, 24];
-    let begin = policy_words::put_words(&list, at, out);
-    octets_pieces::put(rua, begin, out)
 }
 
 // A record into the front of lent memory, and its length, counted on where there is no room.
@@ -123,21 +113,20 @@ fn put_record(s: Settings, rua: &[u8], out: &mut [u8]) -> usize
     ensures { Puts (record_octets s rua.now) 0 out.old result out.new }
 {
     let values = value_words(s);
-    let list = [22];
-    let first = policy_words::put_words(&list, 0, out);
+    let first = policy_words::put_words(&[22], 0, out);
     let last = put_tags(values, first, out);
     put_rua(rua, last, out)
 }
 
 // A refusal with no place.
-fn refused(number: u8) -> Written
-    ensures { result ≡ Written.Refused (refusal number 0) }
+fn refused(number: u8) -> Result<usize, Refusal>
+    ensures { result ≡ Err (refusal number 0) }
 {
-    Written::Refused(Refusal { number, place: 0 })
+    Err(Refusal { number, place: 0 })
 }
 
 // A record into the front of lent memory.
-pub fn write_record(s: Settings, rua: &[u8], out: &mut [u8]) -> Written
+pub fn write_record(s: Settings, rua: &[u8], out: &mut [u8]) -> Result<usize, Refusal>
     ensures { WritesIf (written_record s rua.now) out.old result out.new }
 {
     let usable = force_policies::is_usable(s);
@@ -153,5 +142,5 @@ pub fn write_record(s: Settings, rua: &[u8], out: &mut [u8]) -> Written
     if out.len() < needed {
         return octets_write::too_short(needed);
     }
-    Written::Wrote(put_record(s, rua, out))
+    Ok(put_record(s, rua, out))
 }

@@ -2,14 +2,13 @@
 use mathlib.Core.Path.{◌≡◌, refl, sym, ◌∙◌}
 use mathlib.Core.List.{List, [], ◌∷◌, ◌++◌}
 use mathlib.Core.Bool.{Bool, true, false, ◌&&◌}
-use mathlib.Core.Option.{Option, none as nothing, some as just}
 use Prim.Native.Nat.{ℕ, zero, suc, ◌+◌, ◌≤◌, ◌<◌}
 use native.Mathlib.Omega.{arith}
 use native.Mathlib.Decide.{dec_le}
 use lib.Dec.{leb, ltb}
 use lib.ListN.{length, take, drop}
 use borrow.Author.Tests.{lt-ltb, ltb-false}
-use Rattle.std.specs.Prelude.{if◌then◌else◌}
+use Rattle.std.specs.Prelude.{if◌then◌else◌, Option, None, Some}
 use Rattle.octets.specs.Octets.{Octets, octets, any, same, same_text, is_empty}
 use Rattle.octets.specs.Framing.{mark_of, size_of, body_of, after_record}
 use Rattle.octets.specs.Refusing.{ok, refusal}
@@ -111,12 +110,12 @@ apart m n s u z y c b (r ∷ a) (suc k) over phase seen place (x ∷ xs) e =
 
 -- an answer's name keeps the rule, as it is kept
 unfoldable Ruled : Option Entry → Type 0
-Ruled nothing = Unit
-Ruled (just (author_entry e s d)) = Unit
-Ruled (just (identifier_entry k o d)) = Unit
-Ruled (just (answer_entry n s x)) = is_domain n ≡ true
+Ruled None = Unit
+Ruled (Some (author_entry e s d)) = Unit
+Ruled (Some (identifier_entry k o d)) = Unit
+Ruled (Some (answer_entry n s x)) = is_domain n ≡ true
 
-ruled_if : (a b c : Bool) (n : Octets) (s : Status) (x : Octets) → (b ≡ true → is_domain n ≡ true) → Ruled (if a && b && c then just (answer_entry n s x) else nothing)
+ruled_if : (a b c : Bool) (n : Octets) (s : Status) (x : Octets) → (b ≡ true → is_domain n ≡ true) → Ruled (if a && b && c then Some (answer_entry n s x) else None)
 unfolding Ruled
 ruled_if true true true n s x h = h refl
 ruled_if true true false n s x h = tt
@@ -125,10 +124,10 @@ ruled_if false b c n s x h = tt
 
 answer_ruled : (o : Option Status) (n : ℕ) (rest : Octets) → Ruled (answer_in o n rest)
 unfolding answer_in Ruled
-answer_ruled nothing n rest = tt
-answer_ruled (just s) n rest = ruled_if (leb n (length rest)) (is_domain (without_dot (take n rest))) (bytes_allowed s (drop n rest)) (without_dot (take n rest)) s (drop n rest) λ e. e
+answer_ruled None n rest = tt
+answer_ruled (Some s) n rest = ruled_if (leb n (length rest)) (is_domain (without_dot (take n rest))) (bytes_allowed s (drop n rest)) (without_dot (take n rest)) s (drop n rest) λ e. e
 
-by_mark : (a b c : Bool) (x y z : Option Entry) → Ruled x → Ruled y → Ruled z → Ruled (if a then x else if b then y else if c then z else nothing)
+by_mark : (a b c : Bool) (x y z : Option Entry) → Ruled x → Ruled y → Ruled z → Ruled (if a then x else if b then y else if c then z else None)
 unfolding Ruled
 by_mark true b c x y z p q r = p
 by_mark false true c x y z p q r = q
@@ -141,7 +140,7 @@ entry_ruled mark [] = tt
 entry_ruled mark (a ∷ []) = tt
 entry_ruled mark (a ∷ b ∷ rest) = by_mark (same mark (octets "AU")) (same mark (octets "ID")) (same mark (octets "AN")) _ _ _ tt tt (answer_ruled (status_of a) b rest)
 
-named_undotted : (t : Octets) (n : Octets) (s : Status) (x : Octets) → entry_of t ≡ just (answer_entry n s x) → without_dot n ≡ n
+named_undotted : (t : Octets) (n : Octets) (s : Status) (x : Octets) → entry_of t ≡ Some (answer_entry n s x) → without_dot n ≡ n
 unfolding entry_of Ruled
 named_undotted t n s x e = (taken n).kept (rw e at (entry_ruled (mark_of t) (body_of t)))
 

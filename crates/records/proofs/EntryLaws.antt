@@ -1,8 +1,8 @@
 -- Laws of a sheet's records, one after another.
+use Rattle.std.specs.Prelude.{Some}
 use mathlib.Core.Path.{◌≡◌, refl, ap, sym}
 use mathlib.Core.List.{List, [], ◌∷◌, ◌++◌}
 use mathlib.Core.Bool.{Bool, false, ◌&&◌, not}
-use mathlib.Core.Option.{some as just}
 use Prim.Native.Nat.{ℕ, zero, suc, ◌+◌, ◌≤◌, ◌<◌}
 use native.Mathlib.Omega.{arith}
 use lib.Dec.{ltb}
@@ -22,8 +22,8 @@ use Rattle.records.specs.Sheet.{Entry, entry_of, phase_after, answered_name, ans
 pub record Entered (over : Bool) (phase : Phase) (seen : List Octets) (place : ℕ) (t : Octets) (r : Entry) (next : Phase) : Type 0 where
   pub within : (over && ltb 65536 (place + 4 + size_of t)) ≡ false
   pub fits : 4 + size_of t ≤ length t
-  pub reads : entry_of t ≡ just r
-  pub follows : phase_after phase r ≡ just next
+  pub reads : entry_of t ≡ Some r
+  pub follows : phase_after phase r ≡ Some next
   pub unseen : answered_before seen r ≡ false
 
 module _ (over : Bool) (phase : Phase) (seen : List Octets) (place : ℕ) (t : Octets) where

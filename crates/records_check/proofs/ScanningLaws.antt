@@ -1,17 +1,17 @@
 -- Laws of the check: one record, and the sheet read record by record.
+use Rattle.std.specs.Prelude.{Result, Ok, Err, Option, None, Some}
 use mathlib.Core.Path.{◌≡◌, refl, ap, sym, ◌∙◌}
 use mathlib.Core.List.{List, [], ◌∷◌, ◌++◌, map, flatten, append_assoc, append-nil}
 use mathlib.Core.Logic.{⊎_elim}
-use mathlib.Core.Bool.{Bool, true, false, ◌&&◌, and-false, or-false}
-use mathlib.Core.Option.{Option, none as nothing, some as just}
+use mathlib.Core.Bool.{Bool, true, false, not, ◌&&◌, and-false, or-false}
 use Prim.Native.Nat.{ℕ, zero, suc, ◌+◌, ◌-◌, ◌≤◌, ◌<◌}
 use native.Mathlib.Omega.{arith}
 use native.Mathlib.Numerals.{add-one}
 use denote.Enum.Declared.{tag_of}
 use types.Run.{OneOf}
-use lib.Dec.{ltb}
+use lib.Dec.{ltb, eqb}
 use lib.ListN.{length, length-append}
-use borrow.Author.Tests.{lt-ltb, le-ltb}
+use borrow.Author.Tests.{lt-ltb, le-ltb, ne_eqb}
 use Rattle.octets.specs.Octets.{Octets, any}
 use Rattle.octets.specs.Framing.{size_of, body_of, after_record}
 use Rattle.octets.specs.Refusing.{◌>>=◌, OrRefused, ok, not_ok, refusal, refuse_if, or_refuse}
@@ -19,23 +19,20 @@ use Rattle.octets.specs.declared.Refusal.{Refusal}
 use Rattle.octets.proofs.FramingLaws.{whole, not_whole, after_length}
 use Rattle.octets.proofs.RefusingLaws.{bind_ok}
 use Rattle.records.specs.declared.Phase.{Phase}
-use Rattle.records.specs.contracts.Phase as phases
 use Rattle.records.specs.Sheet.{Entry, author_entry, identifier_entry, answer_entry, entry_of, phase_after, answered_name, answered_before, ends_within, entry_at, entries_from, entries}
 use Rattle.records.proofs.EntryLaws.{Entered, entered, none_left, enough}
-use Rattle.records_fields.specs.declared.Scanned.{Scanned}
 use Rattle.records_fields.specs.code.Layout.{onto, listed, name_in, found_body, Checks}
 use Rattle.records_find.proofs.SheetLaws.{Reads, record_reads, before_law}
 use Rattle.records_read.specs.declared.RecordKind.{RecordKind}
 use Rattle.records_read.specs.contracts.RecordKind as kinds
 use Rattle.records_read.specs.code.Kinds.{record_kind}
-use Rattle.records_check.specs.declared.NextPhase.{NextPhase}
 use Rattle.records_check.specs.code.Scanning.{names_before, phase_read, phase_only, phase_entered, next_as}
 
 -- ------------------------------------------------------------------ a name that is answered before
 
 -- the returns of `is_answered`; variants are told apart by their places
 pub nameless : (seen : List Octets) (t : Octets) (kind : RecordKind) → kind ≡ record_kind (entry_of t) → OneOf (0 ∷ 1 ∷ 3 ∷ []) (tag_of kinds.the_type kind)
-    → (e : Entry) → entry_of t ≡ just e → false ≡ answered_before seen e
+    → (e : Entry) → entry_of t ≡ Some e → false ≡ answered_before seen e
 unfolding record_kind answered_before answered_name any
 nameless seen t kind k o (author_entry x s d) f = refl
 nameless seen t kind k o (identifier_entry x s d) f = refl
@@ -43,9 +40,13 @@ nameless seen t kind k o (answer_entry n s b) f =
     let e : kind ≡ RecordKind.Answer = k ∙ ap record_kind f in
     absurd (⊎_elim (λ z. omega arith) (λ z. ⊎_elim (λ y. omega arith) (λ y. omega arith) z) (rw e at o))
 
+pub some_octets : (l : Octets) → not (eqb (length l) 0) ≡ ltb 0 (length l)
+some_octets [] = refl
+some_octets (x ∷ l) = rw (lt-ltb 0 (length (x ∷ l)) (omega arith), ne_eqb (length (x ∷ l)) 0 (λ e. omega arith))
+
 pub answered_found : (k : ℕ) (t sheet : Octets) → length (listed k sheet) ≡ k → RecordKind.Answer ≡ record_kind (entry_of t)
     → (content name answer : Octets) → content ≡ body_of t → name ≡ name_in content → answer ≡ found_body k name sheet
-    → (e : Entry) → entry_of t ≡ just e → ltb 0 (length answer) ≡ answered_before (names_before k sheet) e
+    → (e : Entry) → entry_of t ≡ Some e → ltb 0 (length answer) ≡ answered_before (names_before k sheet) e
 unfolding record_kind answered_before answered_name any names_before Reads
 answered_found k t sheet h a content name answer f g q (author_entry x s d) p = let z : ◌≡◌ {A = ℕ} 0 1 = cc (a ∙ ap record_kind p) in absurd (omega arith)
 answered_found k t sheet h a content name answer f g q (identifier_entry x s d) p = let z : ◌≡◌ {A = ℕ} 0 1 = cc (a ∙ ap record_kind p) in absurd (omega arith)
@@ -55,67 +56,57 @@ answered_found k t sheet h a content name answer f g q (answer_entry n s b) p =
 -- ------------------------------------------------------------------ what may come next
 
 -- what the code answers, by phase and kind
-unfoldable pub following : (place : ℕ) → Phase → RecordKind → NextPhase
-following place Phase.Author RecordKind.Author = NextPhase.Next Phase.Identifiers
-following place Phase.Author RecordKind.Identifier = NextPhase.Broken place
-following place Phase.Author RecordKind.Answer = NextPhase.Broken place
-following place Phase.Author RecordKind.Wrong = NextPhase.Broken place
-following place Phase.Identifiers RecordKind.Author = NextPhase.Broken place
-following place Phase.Identifiers RecordKind.Identifier = NextPhase.Next Phase.Identifiers
-following place Phase.Identifiers RecordKind.Answer = NextPhase.Next Phase.Answers
-following place Phase.Identifiers RecordKind.Wrong = NextPhase.Broken place
-following place Phase.Answers RecordKind.Author = NextPhase.Broken place
-following place Phase.Answers RecordKind.Identifier = NextPhase.Broken place
-following place Phase.Answers RecordKind.Answer = NextPhase.Next Phase.Answers
-following place Phase.Answers RecordKind.Wrong = NextPhase.Broken place
+unfoldable pub following : (place : ℕ) → Phase → RecordKind → Result Phase ℕ
+following place Phase.Author RecordKind.Author = Ok Phase.Identifiers
+following place Phase.Author RecordKind.Identifier = Err place
+following place Phase.Author RecordKind.Answer = Err place
+following place Phase.Author RecordKind.Wrong = Err place
+following place Phase.Identifiers RecordKind.Author = Err place
+following place Phase.Identifiers RecordKind.Identifier = Ok Phase.Identifiers
+following place Phase.Identifiers RecordKind.Answer = Ok Phase.Answers
+following place Phase.Identifiers RecordKind.Wrong = Err place
+following place Phase.Answers RecordKind.Author = Err place
+following place Phase.Answers RecordKind.Identifier = Err place
+following place Phase.Answers RecordKind.Answer = Ok Phase.Answers
+following place Phase.Answers RecordKind.Wrong = Err place
 
 pub follows : (place : ℕ) (phase : Phase) (kind : RecordKind) (o : Option Entry) → kind ≡ record_kind o → next_as (following place phase kind) ≡ or_refuse (phase_read phase o) (refusal 8 place)
 unfolding following next_as record_kind phase_read phase_after or_refuse
-follows place Phase.Author kind nothing k = rw k
-follows place Phase.Author kind (just (author_entry e s d)) k = rw k
-follows place Phase.Author kind (just (identifier_entry e s d)) k = rw k
-follows place Phase.Author kind (just (answer_entry e s d)) k = rw k
-follows place Phase.Identifiers kind nothing k = rw k
-follows place Phase.Identifiers kind (just (author_entry e s d)) k = rw k
-follows place Phase.Identifiers kind (just (identifier_entry e s d)) k = rw k
-follows place Phase.Identifiers kind (just (answer_entry e s d)) k = rw k
-follows place Phase.Answers kind nothing k = rw k
-follows place Phase.Answers kind (just (author_entry e s d)) k = rw k
-follows place Phase.Answers kind (just (identifier_entry e s d)) k = rw k
-follows place Phase.Answers kind (just (answer_entry e s d)) k = rw k
+follows place Phase.Author kind None k = rw k
+follows place Phase.Author kind (Some (author_entry e s d)) k = rw k
+follows place Phase.Author kind (Some (identifier_entry e s d)) k = rw k
+follows place Phase.Author kind (Some (answer_entry e s d)) k = rw k
+follows place Phase.Identifiers kind None k = rw k
+follows place Phase.Identifiers kind (Some (author_entry e s d)) k = rw k
+follows place Phase.Identifiers kind (Some (identifier_entry e s d)) k = rw k
+follows place Phase.Identifiers kind (Some (answer_entry e s d)) k = rw k
+follows place Phase.Answers kind None k = rw k
+follows place Phase.Answers kind (Some (author_entry e s d)) k = rw k
+follows place Phase.Answers kind (Some (identifier_entry e s d)) k = rw k
+follows place Phase.Answers kind (Some (answer_entry e s d)) k = rw k
 
 -- the returns of `next_phase`
-module _ (place : ℕ) (phase : Phase) where
-  pub author_late : OneOf (1 ∷ 2 ∷ []) (tag_of phases.the_type phase) → following place phase RecordKind.Author ≡ NextPhase.Broken place
-  unfolding following
-  author_late o = go phase o
-    where
-      go : (p : Phase) → OneOf (1 ∷ 2 ∷ []) (tag_of phases.the_type p) → following place p RecordKind.Author ≡ NextPhase.Broken place
-      go Phase.Author o = absurd (⊎_elim (λ z. omega arith) (λ z. omega arith) o)
-      go Phase.Identifiers o = refl
-      go Phase.Answers o = refl
+pub told : (place : ℕ) (phase : Phase) (kind : RecordKind) {r : Result Phase ℕ} → following place phase kind ≡ r
+    → (o : Option Entry) → kind ≡ record_kind o → next_as r ≡ or_refuse (phase_read phase o) (refusal 8 place)
+told place phase kind e o k = ap next_as (sym e) ∙ follows place phase kind o k
 
-  pub identifier_late : OneOf (0 ∷ 2 ∷ []) (tag_of phases.the_type phase) → following place phase RecordKind.Identifier ≡ NextPhase.Broken place
-  unfolding following
-  identifier_late o = go phase o
-    where
-      go : (p : Phase) → OneOf (0 ∷ 2 ∷ []) (tag_of phases.the_type p) → following place p RecordKind.Identifier ≡ NextPhase.Broken place
-      go Phase.Author o = refl
-      go Phase.Identifiers o = absurd (⊎_elim (λ z. omega arith) (λ z. omega arith) o)
-      go Phase.Answers o = refl
+pub author_late : (place : ℕ) (phase : Phase) → (phase ≡ Phase.Author → ⊥) → following place phase RecordKind.Author ≡ Err place
+unfolding following
+author_late place Phase.Author n = absurd (n refl)
+author_late place Phase.Identifiers n = refl
+author_late place Phase.Answers n = refl
 
-  pub answer_follows : OneOf (1 ∷ 2 ∷ []) (tag_of phases.the_type phase) → following place phase RecordKind.Answer ≡ NextPhase.Next Phase.Answers
-  unfolding following
-  answer_follows o = go phase o
-    where
-      go : (p : Phase) → OneOf (1 ∷ 2 ∷ []) (tag_of phases.the_type p) → following place p RecordKind.Answer ≡ NextPhase.Next Phase.Answers
-      go Phase.Author o = absurd (⊎_elim (λ z. omega arith) (λ z. omega arith) o)
-      go Phase.Identifiers o = refl
-      go Phase.Answers o = refl
+pub identifier_late : (place : ℕ) (phase : Phase) → (phase ≡ Phase.Identifiers → ⊥) → following place phase RecordKind.Identifier ≡ Err place
+unfolding following
+identifier_late place Phase.Author n = refl
+identifier_late place Phase.Identifiers n = absurd (n refl)
+identifier_late place Phase.Answers n = refl
 
-  pub wrong_follows : following place phase RecordKind.Wrong ≡ NextPhase.Broken place
-  unfolding following
-  wrong_follows = elim phase as (λ p. following place p RecordKind.Wrong ≡ NextPhase.Broken place) [ Phase.Author ↦ refl | Phase.Identifiers ↦ refl | Phase.Answers ↦ refl ]
+pub wrong_follows : (place : ℕ) (phase : Phase) → following place phase RecordKind.Wrong ≡ Err place
+unfolding following
+wrong_follows place Phase.Author = refl
+wrong_follows place Phase.Identifiers = refl
+wrong_follows place Phase.Answers = refl
 
 -- ------------------------------------------------------------------ one record
 
@@ -141,17 +132,17 @@ abbrev read_at : Phase → List Octets → ℕ → Option Entry → OrRefused (E
 read_at phase seen place o = or_refuse o (refusal 8 place) >>= λ r. with_phase place r (phase_after phase r) (answered_before seen r)
 
 module _ (phase : Phase) (seen : List Octets) (place : ℕ) where
-  read_again : (o : Option Entry) → ((e : Entry) → o ≡ just e → true ≡ answered_before seen e) → not_ok (refusal 8 place) ≡ phase_only (read_at phase seen place o)
+  read_again : (o : Option Entry) → ((e : Entry) → o ≡ Some e → true ≡ answered_before seen e) → not_ok (refusal 8 place) ≡ phase_only (read_at phase seen place o)
   unfolding or_refuse refuse_if ◌>>=◌
-  read_again nothing a = refl
-  read_again (just r) a =
-      rw (← a r refl) (elim (phase_after phase r) as (λ p. not_ok (refusal 8 place) ≡ phase_only (with_phase place r p true)) [ nothing ↦ refl | just next ↦ refl ])
+  read_again None a = refl
+  read_again (Some r) a =
+      rw (← a r refl) (elim (phase_after phase r) as (λ p. not_ok (refusal 8 place) ≡ phase_only (with_phase place r p true)) [ None ↦ refl | Some next ↦ refl ])
 
-  read_new : (o : Option Entry) → ((e : Entry) → o ≡ just e → false ≡ answered_before seen e) → or_refuse (phase_read phase o) (refusal 8 place) ≡ phase_only (read_at phase seen place o)
+  read_new : (o : Option Entry) → ((e : Entry) → o ≡ Some e → false ≡ answered_before seen e) → or_refuse (phase_read phase o) (refusal 8 place) ≡ phase_only (read_at phase seen place o)
   unfolding phase_read or_refuse refuse_if ◌>>=◌
-  read_new nothing a = refl
-  read_new (just r) a =
-      rw (← a r refl) (elim (phase_after phase r) as (λ p. or_refuse p (refusal 8 place) ≡ phase_only (with_phase place r p false)) [ nothing ↦ refl | just next ↦ refl ])
+  read_new None a = refl
+  read_new (Some r) a =
+      rw (← a r refl) (elim (phase_after phase r) as (λ p. or_refuse p (refusal 8 place) ≡ phase_only (with_phase place r p false)) [ None ↦ refl | Some next ↦ refl ])
 
 -- the returns of `check_record`
 module _ (k : ℕ) (phase : Phase) (t sheet : Octets) (fits : length t ≤ length sheet) (size : ℕ) (e : size ≡ size_of t) where
@@ -159,12 +150,12 @@ module _ (k : ℕ) (phase : Phase) (t sheet : Octets) (fits : length t ≤ lengt
   unfolding entry_at ◌>>=◌
   at_end p = rw p
 
-  pub runs_over : 65536 < length sheet → 65536 < length sheet - length t + (4 + size) → next_as (NextPhase.Broken 65536) ≡ phase_entered k phase t sheet
+  pub runs_over : 65536 < length sheet → 65536 < length sheet - length t + (4 + size) → next_as (Err 65536) ≡ phase_entered k phase t sheet
   unfolding next_as
   runs_over h g =
       at_end (over_long (ltb 65536 (length sheet)) (length sheet - length t) t (rw (lt-ltb 65536 (length sheet) h, lt-ltb 65536 (length sheet - length t + 4 + size_of t) (omega arith))))
 
-  pub runs_past : length sheet ≤ 65536 → length t < 4 + size → next_as (NextPhase.Broken (length sheet - length t)) ≡ phase_entered k phase t sheet
+  pub runs_past : length sheet ≤ 65536 → length t < 4 + size → next_as (Err (length sheet - length t)) ≡ phase_entered k phase t sheet
   unfolding next_as
   runs_past h g = at_end (past_end (ltb 65536 (length sheet)) (length sheet - length t) t (rw (le-ltb 65536 (length sheet) h)) (omega arith))
 
@@ -177,12 +168,12 @@ module _ (k : ℕ) (phase : Phase) (t sheet : Octets) (fits : length t ≤ lengt
     unfolding entry_at ◌>>=◌
     entered_as = rw ended
 
-    pub again : ((r : Entry) → entry_of t ≡ just r → true ≡ answered_before (names_before k sheet) r) → next_as (NextPhase.Broken (length sheet - length t)) ≡ phase_entered k phase t sheet
+    pub again : ((r : Entry) → entry_of t ≡ Some r → true ≡ answered_before (names_before k sheet) r) → next_as (Err (length sheet - length t)) ≡ phase_entered k phase t sheet
     unfolding next_as
     again a = read_again phase (names_before k sheet) (length sheet - length t) (entry_of t) a ∙ sym entered_as
 
-    pub once : ((r : Entry) → entry_of t ≡ just r → false ≡ answered_before (names_before k sheet) r)
-        → (n : NextPhase) → next_as n ≡ or_refuse (phase_read phase (entry_of t)) (refusal 8 (length sheet - length t)) → next_as n ≡ phase_entered k phase t sheet
+    pub once : ((r : Entry) → entry_of t ≡ Some r → false ≡ answered_before (names_before k sheet) r)
+        → (n : Result Phase ℕ) → next_as n ≡ or_refuse (phase_read phase (entry_of t)) (refusal 8 (length sheet - length t)) → next_as n ≡ phase_entered k phase t sheet
     once a n f = f ∙ read_new phase (names_before k sheet) (length sheet - length t) (entry_of t) a ∙ sym entered_as
 
 -- ------------------------------------------------------------------ the records before
@@ -199,8 +190,8 @@ from_next (suc k) sheet = from_next k (after_record sheet)
 
 onto_append : (o : Option Entry) (a b : List Entry) → onto o (a ++ b) ≡ onto o a ++ b
 unfolding onto
-onto_append nothing a b = refl
-onto_append (just r) a b = refl
+onto_append None a b = refl
+onto_append (Some r) a b = refl
 
 listed_next : (k : ℕ) (sheet : Octets) → listed (suc k) sheet ≡ listed k sheet ++ onto (entry_of (from_record k sheet)) []
 unfolding listed from_record
@@ -222,7 +213,7 @@ pub record Reading (k : ℕ) (phase : Phase) (t sheet : Octets) : Type 0 where
   pub within : k + length t ≤ length sheet
   pub reads : entries sheet ≡ (entries_from (length t) (ltb 65536 (length sheet)) phase (names_before k sheet) (length sheet - length t) t >>= λ rs. ok (listed k sheet ++ rs))
 
-pub no_octets : (sheet : Octets) → length sheet ≡ 0 → Checks sheet (Scanned.Broken 0)
+pub no_octets : (sheet : Octets) → length sheet ≡ 0 → Checks sheet (Err 0)
 unfolding Checks entries refuse_if ◌>>=◌
 no_octets [] e = refl
 no_octets (x ∷ sheet) e = absurd (omega arith)
@@ -261,24 +252,24 @@ phase_refused (ok e) f h = absurd (let z : ◌≡◌ {A = ℕ} 0 1 = cc in omega
 phase_refused (not_ok g) f h = cc
 
 module _ {k : ℕ} {phase : Phase} {t sheet : Octets} (m : Reading k phase t sheet) where
-  pub complete : length t ≤ 0 → Checks sheet (Scanned.Whole k)
+  pub complete : length t ≤ 0 → Checks sheet (Ok k)
   unfolding Checks ◌>>=◌
   complete h = record {
     reads = m.reads ∙ rw (none_left (length t) (ltb 65536 (length sheet)) phase (names_before k sheet) (length sheet - length t) t (omega arith), append-nil);
     all_listed = m.counted;
   }
 
-  module _ (h : 0 < length t) (r : NextPhase) (e : next_as r ≡ phase_entered k phase t sheet) where
+  module _ (h : 0 < length t) (r : Result Phase ℕ) (e : next_as r ≡ phase_entered k phase t sheet) where
     over : Bool
     over = ltb 65536 (length sheet)
 
-    pub faulty : (place : ℕ) → r ≡ NextPhase.Broken place → Checks sheet (Scanned.Broken place)
+    pub faulty : (place : ℕ) → r ≡ Err place → Checks sheet (Err place)
     unfolding Checks next_as ◌>>=◌ over
     faulty place f =
         let p = phase_refused (entry_at over phase (names_before k sheet) (length sheet - length t) t) (refusal 8 place) (sym e ∙ ap next_as f) in
         m.reads ∙ rw (turn over phase (names_before k sheet) (length sheet - length t) t h (not_ok (refusal 8 place)) p)
 
-    module _ (next : Phase) (f : r ≡ NextPhase.Next next) (rest : Octets) (g : rest ≡ after_record t) where
+    module _ (next : Phase) (f : r ≡ Ok next) (rest : Octets) (g : rest ≡ after_record t) where
       -- the record at the front
       found : (x : Entry × Phase) × ((entry_at over phase (names_before k sheet) (length sheet - length t) t ≡ ok x) × (ok x.1 ≡ ok next))
       unfolding next_as over

@@ -2,26 +2,15 @@
 use mathlib.Core.Path.{◌≡◌, refl, ap, ◌∙◌}
 use mathlib.Core.List.{[], ◌∷◌}
 use mathlib.Core.Bool.{true, false}
-use mathlib.Core.Option.{none as nothing, some as just}
 use Prim.Native.Nat.{ℕ, zero, suc, ◌+◌, ◌-◌, ◌≤◌, ◌<◌}
 use native.Mathlib.Omega.{arith}
-use lib.Dec.{eqb}
-use lib.ListN.{length, drop, get_or}
-use lib.Seq.{drop-cons}
-use borrow.Author.Tests.{ne_eqb}
-use Rattle.std.specs.Prelude.{if◌then◌else◌}
+use lib.ListN.{drop, get_or}
 use Rattle.octets.specs.Octets.{Octets, octets, same, same_text, part_of}
 use Rattle.octets.specs.Framing.{mark_of, body_of, after_record}
 use Rattle.domain.specs.Domain.{without_dot}
-use Rattle.txt.specs.declared.Status.{Status}
-use Rattle.records.specs.Sheet.{status_of}
-use Rattle.records_fields.specs.code.Layout.{name_in, answers_name, found_body, status_or_error, status_in, bytes_in, identifier_at, identified}
+use Rattle.records_fields.specs.code.Layout.{name_in, answers_name, found_body, bytes_in, identifier_at, identified}
 
 -- ------------------------------------------------------------------ the parts of an answer
-
--- an octet that is there is found with any other in its place
-pub found_octet : (s : Octets) (i a b : ℕ) → i < length s → get_or s i a ≡ get_or s i b
-found_octet s i a b h = cc (drop-cons s i a h, drop-cons s i b h)
 
 pub name_part : (body : Octets) (size : ℕ) → size ≡ get_or body 1 0 → without_dot (part_of body 2 (2 + size)) ≡ name_in body
 unfolding part_of name_in
@@ -30,13 +19,6 @@ name_part body size e = let f : 2 + size - 2 ≡ size = omega arith in rw (f, e)
 pub bytes_part : (body : Octets) (size : ℕ) → size ≡ get_or body 1 0 → drop (2 + size) body ≡ bytes_in body
 unfolding bytes_in
 bytes_part body size e = rw e
-
--- the status of a number that is neither 0 nor 1
-pub other_status : (body : Octets) (n : ℕ) → n ≡ get_or body 0 2 → (n ≡ 0 → ⊥) → (n ≡ 1 → ⊥) → Status.Error ≡ status_in body
-unfolding status_in status_of status_or_error
-other_status body n e f g =
-    rw (← e, ne_eqb n 0 f, ne_eqb n 1 g)
-    (elim (eqb n 2) as (λ b. Status.Error ≡ status_or_error (if b then just Status.Error else nothing)) [ true ↦ refl | false ↦ refl ])
 
 -- ------------------------------------------------------------------ the answer at a name
 

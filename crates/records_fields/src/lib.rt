@@ -1,5 +1,5 @@
 // The fields of a sheet's record.
-#![tactic(auto)]
+#![tactic(auto, unfolding(records::specs::Sheet::status_of, crate::specs::code::Layout::status_or_error, crate::specs::code::Layout::status_in))]
 
 ghost use Rattle.std.specs.Prelude.{◌≡◌, ◌≤◌, get_or};
 ghost use Rattle.octets.specs.Framing.{size_of, body_of, after_record};
@@ -7,29 +7,19 @@ ghost use Rattle.records_fields.specs.code.Layout.{name_in, status_in, bytes_in}
 
 use txt::Status;
 
-// What a sheet is found to be: so many records, none of them wrong; or broken at a place.
-#[derive(Clone, Copy)]
-pub enum Scanned {
-    Whole(usize),
-    Broken(usize),
-}
-
 // An octet of a text, or another where there is none.
 pub fn octet_at(s: &[u8], at: usize, other: u8) -> u8
     ensures { result ≡ get_or s.now at other }
 {
-    if at < s.len() {
-        return s[at];
-    }
-    other
+    s.get(at).copied().unwrap_or(other)
 }
 
 // The length of a record's body.
 pub fn size(t: &[u8]) -> usize
     ensures { (result ≡ size_of t.now) × (result ≤ 65535) }
 {
-    let high = octet_at(t, 2, 0) as usize;
-    let low = octet_at(t, 3, 0) as usize;
+    let high = usize::from(octet_at(t, 2, 0));
+    let low = usize::from(octet_at(t, 3, 0));
     high * 256 + low
 }
 
@@ -51,7 +41,7 @@ pub fn after_record(t: &[u8]) -> &[u8]
 pub fn name_in(body: &[u8]) -> &[u8]
     ensures { result.now ≡ name_in body.now }
 {
-    let name = text_parts::part(body, 2, 2 + octet_at(body, 1, 0) as usize);
+    let name = text_parts::part(body, 2, 2 + usize::from(octet_at(body, 1, 0)));
     domain_taken::without_dot(name)
 }
 
@@ -70,5 +60,5 @@ pub fn status(body: &[u8]) -> Status
 pub fn bytes(body: &[u8]) -> &[u8]
     ensures { result.now ≡ bytes_in body.now }
 {
-    text_parts::skip(body, 2 + octet_at(body, 1, 0) as usize)
+    text_parts::skip(body, 2 + usize::from(octet_at(body, 1, 0)))
 }

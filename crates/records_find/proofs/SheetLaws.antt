@@ -2,13 +2,12 @@
 use mathlib.Core.Path.{◌≡◌, refl, ap, ap₂, sym, ◌∙◌, subst}
 use mathlib.Core.List.{List, [], ◌∷◌, ◌++◌, map, flatten}
 use mathlib.Core.Bool.{Bool, true, false, ◌&&◌}
-use mathlib.Core.Option.{Option, none as nothing, some as just}
 use Prim.Native.Nat.{ℕ, zero, suc, ◌+◌, ◌-◌, ◌≤◌, ◌<◌}
 use native.Mathlib.Omega.{arith}
 use lib.Dec.{leb, ltb}
 use lib.ListN.{length, take, drop}
 use borrow.Author.Tests.{lt-ltb}
-use Rattle.std.specs.Prelude.{if◌then◌else◌}
+use Rattle.std.specs.Prelude.{if◌then◌else◌, Option, None, Some}
 use Rattle.octets.specs.Octets.{Octets, octets, same, same_text, any, is_empty}
 use Rattle.octets.specs.Framing.{mark_of, size_of, body_of, after_record}
 use Rattle.octets.specs.Refusing.{ok, refusal}
@@ -44,27 +43,27 @@ Reads mark body (author_entry e s d) = ReadsPair mark body false e s d
 Reads mark body (identifier_entry k o d) = ReadsPair mark body true k o d
 Reads mark body (answer_entry n s b) = ReadsAnswer mark body n s b
 
-status_read : (a : ℕ) (rest : Octets) (s : Status) → status_of a ≡ just s → status_in (a ∷ rest) ≡ s
+status_read : (a : ℕ) (rest : Octets) (s : Status) → status_of a ≡ Some s → status_in (a ∷ rest) ≡ s
 unfolding status_in status_or_error
 status_read a rest s e = rw e
 
-answer_read : (o : Option Status) (n : ℕ) (rest : Octets) (r : Entry) → answer_in o n rest ≡ just r → (s : Status) × ((o ≡ just s) × (answer_entry (without_dot (take n rest)) s (drop n rest) ≡ r))
+answer_read : (o : Option Status) (n : ℕ) (rest : Octets) (r : Entry) → answer_in o n rest ≡ Some r → (s : Status) × ((o ≡ Some s) × (answer_entry (without_dot (take n rest)) s (drop n rest) ≡ r))
 unfolding answer_in
-answer_read nothing n rest r e = absurd (let z : ◌≡◌ {A = ℕ} 0 1 = cc in omega arith)
-answer_read (just s) n rest r e = go (leb n (length rest) && is_domain (without_dot (take n rest)) && bytes_allowed s (drop n rest)) e
+answer_read None n rest r e = absurd (let z : ◌≡◌ {A = ℕ} 0 1 = cc in omega arith)
+answer_read (Some s) n rest r e = go (leb n (length rest) && is_domain (without_dot (take n rest)) && bytes_allowed s (drop n rest)) e
   where
-    go : (b : Bool) → (if b then just (answer_entry (without_dot (take n rest)) s (drop n rest)) else nothing) ≡ just r → (s' : Status) × ((just s ≡ just s') × (answer_entry (without_dot (take n rest)) s' (drop n rest) ≡ r))
+    go : (b : Bool) → (if b then Some (answer_entry (without_dot (take n rest)) s (drop n rest)) else None) ≡ Some r → (s' : Status) × ((Some s ≡ Some s') × (answer_entry (without_dot (take n rest)) s' (drop n rest) ≡ r))
     go true f = (s, (refl, cc))
     go false f = absurd (let z : ◌≡◌ {A = ℕ} 0 1 = cc in omega arith)
 
-pub entry_reads : (mark body : Octets) (r : Entry) → entry_in mark body ≡ just r → Reads mark body r
+pub entry_reads : (mark body : Octets) (r : Entry) → entry_in mark body ≡ Some r → Reads mark body r
 unfolding entry_in Reads same octets name_in bytes_in
 entry_reads mark [] r e = absurd (let z : ◌≡◌ {A = ℕ} 0 1 = cc in omega arith)
 entry_reads mark (a ∷ []) r e = absurd (let z : ◌≡◌ {A = ℕ} 0 1 = cc in omega arith)
 entry_reads mark (a ∷ b ∷ rest) r e = go (same mark (octets "AU")) (same mark (octets "ID")) (same mark (octets "AN")) refl refl refl e
   where
     go : (au id an : Bool) → same mark (octets "AU") ≡ au → same mark (octets "ID") ≡ id → same mark (octets "AN") ≡ an
-        → (if au then just (author_entry a b rest) else if id then just (identifier_entry a b rest) else if an then answer_in (status_of a) b rest else nothing) ≡ just r → Reads mark (a ∷ b ∷ rest) r
+        → (if au then Some (author_entry a b rest) else if id then Some (identifier_entry a b rest) else if an then answer_in (status_of a) b rest else None) ≡ Some r → Reads mark (a ∷ b ∷ rest) r
     go true id an p q u f =
         let m : mark ≡ octets "AU" = same_true mark (octets "AU") p in
         let g : author_entry a b rest ≡ r = cc in
@@ -79,7 +78,7 @@ entry_reads mark (a ∷ b ∷ rest) r e = go (same mark (octets "AU")) (same mar
         subst (Reads mark (a ∷ b ∷ rest)) g (record { no_identifier = q; marked = u; its_name = refl; its_status = status_read a (b ∷ rest) s v; its_bytes = rw two; there = omega arith })
     go false false false p q u f = absurd (let z : ◌≡◌ {A = ℕ} 0 1 = cc in omega arith)
 
-pub record_reads : (t : Octets) (r : Entry) → entry_of t ≡ just r → Reads (mark_of t) (body_of t) r
+pub record_reads : (t : Octets) (r : Entry) → entry_of t ≡ Some r → Reads (mark_of t) (body_of t) r
 unfolding entry_of
 record_reads t r e = entry_reads (mark_of t) (body_of t) r e
 
@@ -91,18 +90,18 @@ listed_fits zero t = omega arith
 listed_fits (suc k) t = go (entry_of t) (listed_fits k (after_record t))
   where
     go : (o : Option Entry) → length (listed k (after_record t)) ≤ k → length (onto o (listed k (after_record t))) ≤ suc k
-    go nothing h = omega arith
-    go (just r) h = omega arith
+    go None h = omega arith
+    go (Some r) h = omega arith
 
 -- where there are k of them, each is read
-all_read : (k : ℕ) (t : Octets) → length (listed (suc k) t) ≡ suc k → (r : Entry) × ((entry_of t ≡ just r) × ((listed (suc k) t ≡ r ∷ listed k (after_record t)) × (length (listed k (after_record t)) ≡ k)))
+all_read : (k : ℕ) (t : Octets) → length (listed (suc k) t) ≡ suc k → (r : Entry) × ((entry_of t ≡ Some r) × ((listed (suc k) t ≡ r ∷ listed k (after_record t)) × (length (listed k (after_record t)) ≡ k)))
 unfolding listed onto
 all_read k t h = go (entry_of t) refl h
   where
     go : (o : Option Entry) → entry_of t ≡ o → length (onto o (listed k (after_record t))) ≡ suc k
-        → (r : Entry) × ((entry_of t ≡ just r) × ((onto (entry_of t) (listed k (after_record t)) ≡ r ∷ listed k (after_record t)) × (length (listed k (after_record t)) ≡ k)))
-    go nothing e g = absurd (omega (arith, listed_fits k (after_record t)))
-    go (just r) e g = (r, (e, (rw e, omega arith)))
+        → (r : Entry) × ((entry_of t ≡ Some r) × ((onto (entry_of t) (listed k (after_record t)) ≡ r ∷ listed k (after_record t)) × (length (listed k (after_record t)) ≡ k)))
+    go None e g = absurd (omega (arith, listed_fits k (after_record t)))
+    go (Some r) e g = (r, (e, (rw e, omega arith)))
 
 -- ------------------------------------------------------------------ the answer at a name
 
@@ -177,7 +176,7 @@ no_identifiers (suc n) over seen place (x ∷ xs) rs e =
     ∙ go s.entry s.next s.enters.follows s.others s.goes_on
     (no_identifiers n over (seen ++ answered_name s.entry) (place + 4 + size_of (x ∷ xs)) (after_record (x ∷ xs)) s.others)
   where
-    go : (r : Entry) (next : Phase) → phase_after Phase.Answers r ≡ just next → (others : List Entry)
+    go : (r : Entry) (next : Phase) → phase_after Phase.Answers r ≡ Some next → (others : List Entry)
         → entries_from n over next (seen ++ answered_name r) (place + 4 + size_of (x ∷ xs)) (after_record (x ∷ xs)) ≡ ok others
         → (entries_from n over Phase.Answers (seen ++ answered_name r) (place + 4 + size_of (x ∷ xs)) (after_record (x ∷ xs)) ≡ ok others → identifiers_in others ≡ []) → identifiers_in (r ∷ others) ≡ []
     go (author_entry e s d) next p others g ih = absurd (let z : ◌≡◌ {A = ℕ} 0 1 = cc in omega arith)
@@ -197,7 +196,7 @@ next_listed k (suc n) over phase seen place (x ∷ xs) e h =
 
 -- the identifiers of one record more
 module _ (k : ℕ) (t : Octets) where
-  identifiers_step : (r : Entry) (next : Phase) → Reads (mark_of t) (body_of t) r → phase_after Phase.Identifiers r ≡ just next
+  identifiers_step : (r : Entry) (next : Phase) → Reads (mark_of t) (body_of t) r → phase_after Phase.Identifiers r ≡ Some next
       → (next ≡ Phase.Identifiers → identifiers_in (listed k (after_record t)) ≡ identified k (after_record t))
       → (next ≡ Phase.Answers → identifiers_in (listed k (after_record t)) ≡ [])
       → identifiers_in (r ∷ listed k (after_record t)) ≡ identified (suc k) t
@@ -207,7 +206,7 @@ module _ (k : ℕ) (t : Octets) where
   identifiers_step (answer_entry n s b) next q p more none = let f : next ≡ Phase.Answers = cc in rw q.no_identifier (none f)
 
   -- and the message of which it is the first
-  message_step : (r : Entry) (next : Phase) → Reads (mark_of t) (body_of t) r → 4 + size_of t ≤ length t → phase_after Phase.Author r ≡ just next
+  message_step : (r : Entry) (next : Phase) → Reads (mark_of t) (body_of t) r → 4 + size_of t ≤ length t → phase_after Phase.Author r ≡ Some next
       → (next ≡ Phase.Identifiers → identifiers_in (listed k (after_record t)) ≡ identified k (after_record t))
       → message_in (r ∷ listed k (after_record t)) ≡ message_on (suc k) t
   unfolding Reads phase_after message_in message_on identifiers_on

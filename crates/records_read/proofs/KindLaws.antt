@@ -2,14 +2,13 @@
 use mathlib.Core.Path.{◌≡◌, refl, ap, sym, ◌∙◌}
 use mathlib.Core.List.{[], ◌∷◌}
 use mathlib.Core.Bool.{Bool, true, false, ◌&&◌, not, and-false}
-use mathlib.Core.Option.{Option, none as nothing, some as just}
 use Prim.Native.Nat.{ℕ, zero, suc, ◌+◌, ◌≤◌, ◌<◌}
 use native.Mathlib.Omega.{arith}
 use lib.Dec.{eqb, leb}
 use lib.ListN.{length, take, drop, get_or}
 use lib.Seq.{drop-cons, drop-length}
 use borrow.Author.Tests.{le-leb, lt-leb, eq-eqb, ne_eqb, eqb-true, eqb-false}
-use Rattle.std.specs.Prelude.{if◌then◌else◌}
+use Rattle.std.specs.Prelude.{if◌then◌else◌, Option, None, Some}
 use Rattle.octets.specs.Octets.{Octets, octets, same, is_empty, is_nothing, part_of}
 use Rattle.octets.specs.Framing.{mark_of, body_of}
 use Rattle.octets.proofs.TextLaws.{same_true}
@@ -32,28 +31,28 @@ empty_drop n l h = go (eqb (length l) n) refl
         let d : length l ≡ n → ⊥ = eqb-false (length l) n e in
         rw (e, drop-cons l n 0 (omega arith))
 
-no_status : (s : ℕ) → 2 < s → status_of s ≡ nothing
+no_status : (s : ℕ) → 2 < s → status_of s ≡ None
 unfolding status_of
 no_status s h = rw (ne_eqb s 0 (λ e. omega arith), ne_eqb s 1 (λ e. omega arith), ne_eqb s 2 (λ e. omega arith))
 
 module _ (n : ℕ) (rest : Octets) where
   -- a name that runs past the end, or keeps no rule
-  no_name : (o : Option Status) → leb n (length rest) ≡ false → answer_in o n rest ≡ nothing
+  no_name : (o : Option Status) → leb n (length rest) ≡ false → answer_in o n rest ≡ None
   unfolding answer_in
-  no_name nothing e = refl
-  no_name (just s) e = rw e
+  no_name None e = refl
+  no_name (Some s) e = rw e
 
-  no_rule : (o : Option Status) → is_domain (without_dot (take n rest)) ≡ false → answer_in o n rest ≡ nothing
+  no_rule : (o : Option Status) → is_domain (without_dot (take n rest)) ≡ false → answer_in o n rest ≡ None
   unfolding answer_in
-  no_rule nothing e = refl
-  no_rule (just s) e = rw (e, and-false)
+  no_rule None e = refl
+  no_rule (Some s) e = rw (e, and-false)
 
   module _ (fits : leb n (length rest) ≡ true) (rule : is_domain (without_dot (take n rest)) ≡ true) where
-    by_status : (s : Status) → not (is_nothing (answer_in (just s) n rest)) ≡ bytes_allowed s (drop n rest)
+    by_status : (s : Status) → not (is_nothing (answer_in (Some s) n rest)) ≡ bytes_allowed s (drop n rest)
     unfolding answer_in is_nothing
     by_status s =
         let answer = answer_entry (without_dot (take n rest)) s (drop n rest) in
-        rw (fits, rule) (elim (bytes_allowed s (drop n rest)) as (λ b. not (is_nothing (if b then just answer else nothing)) ≡ b) [ true ↦ refl | false ↦ refl ])
+        rw (fits, rule) (elim (bytes_allowed s (drop n rest)) as (λ b. not (is_nothing (if b then Some answer else None)) ≡ b) [ true ↦ refl | false ↦ refl ])
 
     with_records : not (is_nothing (answer_in (status_of 0) n rest)) ≡ true
     unfolding status_of bytes_allowed
@@ -121,11 +120,11 @@ by_answer false = RecordKind.Wrong
 
 answer_kind : (o : Option Status) (n : ℕ) (rest : Octets) → by_answer (not (is_nothing (answer_in o n rest))) ≡ record_kind (answer_in o n rest)
 unfolding answer_in record_kind is_nothing by_answer
-answer_kind nothing n rest = refl
-answer_kind (just s) n rest =
+answer_kind None n rest = refl
+answer_kind (Some s) n rest =
     let answer = answer_entry (without_dot (take n rest)) s (drop n rest) in
     elim (leb n (length rest) && is_domain (without_dot (take n rest)) && bytes_allowed s (drop n rest))
-    as (λ b. by_answer (not (is_nothing (if b then just answer else nothing))) ≡ record_kind (if b then just answer else nothing)) [ true ↦ refl | false ↦ refl ]
+    as (λ b. by_answer (not (is_nothing (if b then Some answer else None))) ≡ record_kind (if b then Some answer else None)) [ true ↦ refl | false ↦ refl ]
 
 kind_by_body : (body : Octets) → by_answer (not (is_nothing (entry_in (octets "AN") body))) ≡ record_kind (entry_in (octets "AN") body)
 unfolding entry_in record_kind is_nothing by_answer

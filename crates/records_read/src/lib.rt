@@ -20,20 +20,11 @@ fn is_answer(body: &[u8]) -> bool
     ensures { result ≡ not (is_nothing (entry_in (octets "AN") body.now)) }
 {
     let status = records_fields::octet_at(body, 0, 3);
-    if 2 < status {
+    let end = 2 + usize::from(records_fields::octet_at(body, 1, 0));
+    if 2 < status || body.len() < end || !domain_rule::is_domain(records_fields::name_in(body)) {
         return false;
     }
-    let end = 2 + records_fields::octet_at(body, 1, 0) as usize;
-    if body.len() < end {
-        return false;
-    }
-    if !domain_rule::is_domain(records_fields::name_in(body)) {
-        return false;
-    }
-    if status == 0 {
-        return true;
-    }
-    body.len() == end
+    status == 0 || body.len() == end
 }
 
 // What a record is.
@@ -41,21 +32,16 @@ pub fn read_kind(t: &[u8]) -> RecordKind
     ensures { result ≡ record_kind (entry_of t.now) }
 {
     let content = records_fields::body(t);
-    if content.len() < 2 {
-        return RecordKind::Wrong;
-    }
     let mark = text_parts::part(t, 0, 2);
-    if text_parts::same_octets(mark, b"AU") {
-        return RecordKind::Author;
+    if content.len() < 2 {
+        RecordKind::Wrong
+    } else if text_parts::same_octets(mark, b"AU") {
+        RecordKind::Author
+    } else if text_parts::same_octets(mark, b"ID") {
+        RecordKind::Identifier
+    } else if text_parts::same_octets(mark, b"AN") && is_answer(content) {
+        RecordKind::Answer
+    } else {
+        RecordKind::Wrong
     }
-    if text_parts::same_octets(mark, b"ID") {
-        return RecordKind::Identifier;
-    }
-    if !text_parts::same_octets(mark, b"AN") {
-        return RecordKind::Wrong;
-    }
-    if is_answer(content) {
-        return RecordKind::Answer;
-    }
-    RecordKind::Wrong
 }

@@ -3,7 +3,6 @@ use mathlib.Core.Path.{◌≡◌, refl, sym, ap, ◌∙◌}
 use mathlib.Core.List.{List, [], ◌∷◌, map, flatten}
 use mathlib.Core.Logic.{◌⊎◌, inl, inr}
 use mathlib.Core.Bool.{Bool, true, false, ◌&&◌, ◌||◌, not, true≢false}
-use mathlib.Core.Option.{Option, none as nothing, some as just, none-ne-some}
 use Prim.Native.Nat.{ℕ, zero, suc, ◌+◌, ◌*◌, ◌-◌, ◌/◌, ◌^◌, ◌≤◌, ◌<◌}
 use Prim.Native.String.{String}
 use native.Mathlib.Decide.{dec_le}
@@ -11,7 +10,7 @@ use native.Mathlib.Omega.{arith}
 use lib.Dec.{eqb, leb, ltb}
 use lib.ListN.{length, take, drop, length-append, length-take, length-drop}
 use borrow.Author.Tests.{eqb-true, leb-true, ltb-true, not-false}
-use Rattle.std.specs.Prelude.{if◌then◌else◌}
+use Rattle.std.specs.Prelude.{if◌then◌else◌, Option, None, Some}
 use Rattle.octets.specs.Octets.{Octets, octets, is_empty, is_set, all, between, lower}
 use Rattle.octets.specs.Decimal.{decimal}
 use Rattle.octets.specs.Refusing.{OrRefused, ok, not_ok, refusal}
@@ -37,6 +36,7 @@ use Rattle.report.specs.Xml.{element, optional_element, entity, with_entities, a
 use Rattle.report.specs.Report.{Reporter, date_range, metadata, published, published_mode, published_testing, policy_published, row_policy, reported_disposition, result_of_alignment}
 use Rattle.report.specs.Report.{policy_evaluated, row_element, outcome_word, dkim_element, spf_element, auth_results, Line, record_element, report_text, counted_rows, add_line, lines}
 use Rattle.report.specs.Report.{good_text, good_texts, good_identifier, good_line, good_file, report}
+use Rattle.std.proofs.lemmas.Option.{none-some}
 
 pub both_hold : (a b : Bool) → (a && b) ≡ true → (a ≡ true) × (b ≡ true)
 both_hold true b e = (refl, e)
@@ -194,27 +194,27 @@ fine_few index seen (i ∷ is) h f = go f.2 (λ s. fine_few (suc index) s is f.0
     go (inl g) more = omega (arith, more seen g.1)
     go (inr g) more = omega (arith, more true g.2)
 
-taken_is : {A : Type 0} (r : OrRefused A) (is taken : List Reported) → elim r [ ok _ ↦ just is | not_ok q ↦ nothing ] ≡ just taken → (is ≡ taken) × Passes r
+taken_is : {A : Type 0} (r : OrRefused A) (is taken : List Reported) → elim r [ ok _ ↦ Some is | not_ok q ↦ None ] ≡ Some taken → (is ≡ taken) × Passes r
 taken_is (ok x) is taken e = (cc e, tt)
-taken_is (not_ok q) is taken e = absurd (none-ne-some taken e)
+taken_is (not_ok q) is taken e = absurd (none-some taken e)
 
-set_few : (body : Option Octets) (is : List Reported) → set_of body ≡ just is → length is ≤ 16
+set_few : (body : Option Octets) (is : List Reported) → set_of body ≡ Some is → length is ≤ 16
 unfolding set_of good_set
-set_few nothing is e = absurd (none-ne-some is e)
-set_few (just body) is e =
+set_few None is e = absurd (none-some is e)
+set_few (Some body) is e =
     let (same, passes) = taken_is (identifiers_from 0 false (map with_good_domain (set_in body))) (set_in body) is e in
     rw (← same) (omega (arith, fine_few 0 false (set_in body) (omega arith) (fine 0 false (set_in body) passes)))
 
-both_few : (d : Option Octets) (o : Option (List Reported)) (n : Named) → both_named d o ≡ just n → ((is : List Reported) → o ≡ just is → length is ≤ 16) → length n.identifiers ≤ 16
+both_few : (d : Option Octets) (o : Option (List Reported)) (n : Named) → both_named d o ≡ Some n → ((is : List Reported) → o ≡ Some is → length is ≤ 16) → length n.identifiers ≤ 16
 unfolding both_named
-both_few nothing o n e few = absurd (none-ne-some n e)
-both_few (just d) nothing n e few = absurd (none-ne-some n e)
-both_few (just d) (just is) n e few = rw (← named) (few is refl)
+both_few None o n e few = absurd (none-some n e)
+both_few (Some d) None n e few = absurd (none-some n e)
+both_few (Some d) (Some is) n e few = rw (← named) (few is refl)
   where
     named : record { author = without_dot d; identifiers = is } ≡ n
     named = cc e
 
-named_few : (l : Lists) (author set : ℕ) (n : Named) → named_by l author set ≡ just n → length n.identifiers ≤ 16
+named_few : (l : Lists) (author set : ℕ) (n : Named) → named_by l author set ≡ Some n → length n.identifiers ≤ 16
 unfolding named_by
 named_few l author set n e = both_few (body_at author l.authors) (set_of (body_at set l.sets)) n e (set_few (body_at set l.sets))
 
@@ -237,23 +237,23 @@ record_size l g few =
     (omega (arith, few, domain_short l.names.author a, identifiers_size l.names.identifiers b))
 
 abbrev Added : Row → Option Named → Option (List Line) → List Line → Type 0
-Added r o more ls = (n : Named) × (rest : List Line) × (o ≡ just n) × (more ≡ just rest) × (record { row = r; names = n } ∷ rest ≡ ls)
+Added r o more ls = (n : Named) × (rest : List Line) × (o ≡ Some n) × (more ≡ Some rest) × (record { row = r; names = n } ∷ rest ≡ ls)
 
-added : (r : Row) (o : Option Named) (more : Option (List Line)) (ls : List Line) → add_line r o more ≡ just ls → Added r o more ls
+added : (r : Row) (o : Option Named) (more : Option (List Line)) (ls : List Line) → add_line r o more ≡ Some ls → Added r o more ls
 unfolding add_line
-added r nothing more ls e = absurd (none-ne-some ls e)
-added r (just n) nothing ls e = absurd (none-ne-some ls e)
-added r (just n) (just rest) ls e = (n, rest, refl, refl, cc e)
+added r None more ls e = absurd (none-some ls e)
+added r (Some n) None ls e = absurd (none-some ls e)
+added r (Some n) (Some rest) ls e = (n, rest, refl, refl, cc e)
 
 abbrev Few : List Row → List Line → Type 0
 Few rows ls = length (flatten (map record_element ls)) ≤ 9681 * length rows + length (flatten (map row_element rows))
 
-records_size : (l : Lists) (rows : List Row) (ls : List Line) → lines l rows ≡ just ls → all good_line ls ≡ true → Few rows ls
+records_size : (l : Lists) (rows : List Row) (ls : List Line) → lines l rows ≡ Some ls → all good_line ls ≡ true → Few rows ls
 unfolding lines all flatten
 records_size l [] ls e g = let none : [] ≡ ls = cc e in rw (← none) (omega arith)
 records_size l (r ∷ rows) ls e g = go (added r (named_by l r.seen.author r.seen.set) (lines l rows) ls e) (records_size l rows)
   where
-    go : Added r (named_by l r.seen.author r.seen.set) (lines l rows) ls → ((ls : List Line) → lines l rows ≡ just ls → all good_line ls ≡ true → Few rows ls) → Few (r ∷ rows) ls
+    go : Added r (named_by l r.seen.author r.seen.set) (lines l rows) ls → ((ls : List Line) → lines l rows ≡ Some ls → all good_line ls ≡ true → Few rows ls) → Few (r ∷ rows) ls
     go (n, rest, named, more, same) ih =
         let line : Line = record { row = r; names = n } in
         let (a, b) = both_hold (good_line line) (all good_line rest) (rw (← same) at g) in

@@ -1,7 +1,6 @@
 -- Three reports, the order of the refusals, and a subject (document 02, Ask 9).
-use Rattle.std.specs.Prelude.{◌≡◌, Bool, true, false, ℕ, ◌/◌, ◌%◌, length, replicate}
+use Rattle.std.specs.Prelude.{◌≡◌, Bool, true, false, ℕ, ◌/◌, ◌%◌, length, replicate, None, Some}
 use mathlib.Core.List.{List, [], ◌∷◌, ◌++◌, map, flatten}
-use Rattle.std.proofs.Math.Option.{none as nothing, some as just}
 use Prim.Native.String.{String}
 use Rattle.octets.specs.Octets.{Octets, octets}
 use Rattle.octets.specs.Refusing.{ok, not_ok, refusal}
@@ -56,7 +55,7 @@ unfoldable pub a_first_row : Row
 a_first_row = a_row an_ipv4 0 0 0 0 0 1
 
 unfoldable pub of_example : List Row → Listing
-of_example rows = record { domain = just (octets "example.com"); rows = rows }
+of_example rows = record { domain = Some (octets "example.com"); rows = rows }
 
 unfoldable pub by_gate : (organization contact : String) (begin end : ℕ) → Reporter
 by_gate organization contact begin end =
@@ -93,7 +92,7 @@ pub record ReportExamples : Type 0 where
       ++ octets "<policy_evaluated><disposition>reject</disposition><dkim>fail</dkim><spf>fail</spf></policy_evaluated></row>"
       ++ octets "<identifiers><header_from>news.example.com</header_from></identifiers><auth_results></auth_results></record></feedback>")
   -- a list's domain in either case; policies that are absent; the other words; two of DKIM with one of SPF between them; the largest count
-  pub two_rows : report (record { domain = just (octets "EXAMPLE.com"); rows = a_row an_ipv4 0 0 0 0 2 4294967295 ∷ a_row an_ipv6 1 0 2 1 1 10 ∷ [] }) two_lists (by_gate "A" "" 9 9)
+  pub two_rows : report (record { domain = Some (octets "EXAMPLE.com"); rows = a_row an_ipv4 0 0 0 0 2 4294967295 ∷ a_row an_ipv6 1 0 2 1 1 10 ∷ [] }) two_lists (by_gate "A" "" 9 9)
       (with_policies (Setting.Set Policy.Quarantine) Setting.Absent Setting.Absent Mode.Relaxed false)
       ≡ ok (octets "<?xml version=\"1.0\" encoding=\"UTF-8\"?><feedback xmlns=\"urn:ietf:params:xml:ns:dmarc-2.0\">"
       ++ octets "<report_metadata><org_name>A</org_name><email>r@gate.example</email>"
@@ -109,14 +108,14 @@ pub record ReportExamples : Type 0 where
       ++ octets "<policy_evaluated><disposition>quarantine</disposition><dkim>fail</dkim><spf>pass</spf></policy_evaluated></row>"
       ++ octets "<identifiers><header_from>news.example.com</header_from></identifiers><auth_results></auth_results></record></feedback>")
   -- "order 27 (never cleared), 18, 28, 19, 11": each with all the faults behind it
-  pub never_cleared : report (record { domain = nothing; rows = [] }) two_lists (by_gate "" "" 9 0) all_three ≡ not_ok (refusal 27 0)
+  pub never_cleared : report (record { domain = None; rows = [] }) two_lists (by_gate "" "" 9 0) all_three ≡ not_ok (refusal 27 0)
   pub no_count : report (of_example (a_row an_ipv4 0 0 0 2 3 0 ∷ [])) two_lists (by_gate "" "" 9 0) all_three ≡ not_ok (refusal 18 0)
   pub past_authors : report (of_example (a_row an_ipv4 0 0 0 2 0 1 ∷ [])) two_lists (by_gate "" "" 9 0) all_three ≡ not_ok (refusal 28 0)
   pub past_sets : report (of_example (a_row an_ipv4 0 0 0 0 3 1 ∷ [])) two_lists (by_gate "" "" 9 0) all_three ≡ not_ok (refusal 28 0)
   pub no_organization : report (of_example (a_first_row ∷ [])) two_lists (by_gate "" "" 9 0) all_three ≡ not_ok (refusal 19 0)
   pub begin_after_end : report (of_example (a_first_row ∷ [])) two_lists (by_gate "A" "" 9 0) all_three ≡ not_ok (refusal 11 0)
   -- "11 also another domain written here": the list's own, which no call leaves so; an author's, an identifier's; "or a DKIM selector taken as one"
-  pub forged_list : report (record { domain = just (octets "a<b"); rows = a_first_row ∷ [] }) two_lists (by_gate "A" "" 0 9) all_three ≡ not_ok (refusal 11 0)
+  pub forged_list : report (record { domain = Some (octets "a<b"); rows = a_first_row ∷ [] }) two_lists (by_gate "A" "" 0 9) all_three ≡ not_ok (refusal 11 0)
   pub bad_author : report (of_example (a_first_row ∷ [])) (of_one "a..b" []) (by_gate "A" "" 0 9) all_three ≡ not_ok (refusal 11 0)
   pub bad_domain : report (of_example (a_first_row ∷ [])) (of_one "a.example" (an_identifier 0 1 "" "a..b")) (by_gate "A" "" 0 9) all_three ≡ not_ok (refusal 11 0)
   pub bad_selector : report (of_example (a_first_row ∷ [])) (of_one "a.example" (an_identifier 1 1 "" "b.example")) (by_gate "A" "" 0 9) all_three ≡ not_ok (refusal 11 0)

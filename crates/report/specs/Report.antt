@@ -1,8 +1,7 @@
 -- The aggregate report as XML (document 02, Ask 9): "Write the report of RFC 9990 (document 002, section 3.1.1 and appendix A) from Ask 1's rows",
 -- "elements in the schema's order". No element is written that no input gives a value to: "scope, reason and envelope_from never".
 use mathlib.Core.List.{List, [], ◌∷◌, ◌++◌, map, flatten}
-use Rattle.std.specs.Prelude.{Bool, true, false, ◌&&◌, ◌||◌, not, ℕ, eqb, leb, length, get_or, if◌then◌else◌}
-use Rattle.std.proofs.Math.Option.{Option, none as nothing, some as just}
+use Rattle.std.specs.Prelude.{Bool, true, false, ◌&&◌, ◌||◌, not, ℕ, eqb, leb, length, get_or, if◌then◌else◌, Option, None, Some}
 use Rattle.octets.specs.Octets.{Octets, octets, is_empty, is_set, all, between, lower}
 use Rattle.octets.specs.Decimal.{decimal}
 use Rattle.octets.specs.Refusing.{◌>>=◌, OrRefused, ok, refusal, refuse_if, or_refuse}
@@ -144,13 +143,13 @@ counted_rows [] = []
 counted_rows (r ∷ rs) = elim (is_free r) [ true ↦ counted_rows rs | false ↦ r ∷ counted_rows rs ]
 
 unfoldable pub add_line : Row → Option Named → Option (List Line) → Option (List Line)
-add_line r nothing ls = nothing
-add_line r (just n) nothing = nothing
-add_line r (just n) (just ls) = just (record { row = r; names = n } ∷ ls)
+add_line r None ls = None
+add_line r (Some n) None = None
+add_line r (Some n) (Some ls) = Some (record { row = r; names = n } ∷ ls)
 
 -- 28 "such a row's number past its list, or a set that 01 would refuse 3 or 4"
 unfoldable pub lines : Lists → List Row → Option (List Line)
-lines l [] = just []
+lines l [] = Some []
 lines l (r ∷ rs) = add_line r (named_by l r.seen.author r.seen.set) (lines l rs)
 
 -- 19 "a text over 4,096 octets or with one outside 32 to 126"

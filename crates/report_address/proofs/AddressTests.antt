@@ -1,8 +1,8 @@
 -- Laws of the tests of an open address.
-use mathlib.Core.Path.{◌≡◌, refl, ap, ◌∙◌}
+use mathlib.Core.Path.{◌≡◌, refl, ◌∙◌}
 use mathlib.Core.List.{List, [], ◌∷◌}
 use mathlib.Core.Bool.{Bool, true, false, ◌&&◌, ◌||◌, not, false≢true}
-use Prim.Native.Nat.{ℕ, zero, suc, ◌+◌, ◌-◌, ◌*◌, ◌≤◌, ◌<◌}
+use Prim.Native.Nat.{ℕ, zero, suc, ◌-◌, ◌≤◌}
 use native.Mathlib.Omega.{arith}
 use lib.Dec.{eqb, leb, ltb}
 use lib.ListN.{length}
@@ -51,14 +51,6 @@ module _ (k n : ℕ) where
   unfolding is_last kind_of last_number
   last_grouped e f = rw (ne_eqb k 0 e, ne_eqb k 1 f, is_last) refl
 
-pub zero_none : (d s : ℕ) → d ≡ 0 → false ≡ only_zero_in d s
-unfolding only_zero_in
-zero_none d s e = rw e refl
-
-pub zero_some : (d s : ℕ) → (d ≡ 0 → ⊥) → eqb s 0 ≡ only_zero_in d s
-unfolding only_zero_in
-zero_some d s e = rw (lt-ltb 0 d (omega (arith, e))) refl
-
 -- ------------------------------------------------------------------ digits
 
 module _ (x : ℕ) where
@@ -74,51 +66,9 @@ module _ (x : ℕ) where
   unfolding digit_value
   value_low e = rw e refl
 
-  pub value_none : is_digit x ≡ false → x < 87 → 0 ≡ digit_value x
-  unfolding digit_value
-  value_none e h = rw e (omega (arith, h))
-
   pub value_high : is_digit x ≡ false → x - 87 ≡ digit_value x
   unfolding digit_value
   value_high e = rw e refl
-
-module _ (kind digits ten sixteen x : ℕ) where
-  pub not_dotted : can_be_dotted (kind_of kind) ≡ false → false ≡ dotted_on kind digits ten sixteen x
-  unfolding dotted_on
-  not_dotted e = rw e refl
-
-  pub no_digit : can_be_dotted (kind_of kind) ≡ true → is_digit x ≡ false → false ≡ dotted_on kind digits ten sixteen x
-  unfolding dotted_on
-  no_digit e f = rw (e, f) refl
-
-  pub behind_zero : can_be_dotted (kind_of kind) ≡ true → is_digit x ≡ true → only_zero_in digits sixteen ≡ true → false ≡ dotted_on kind digits ten sixteen x
-  unfolding dotted_on
-  behind_zero e f g = rw (e, f, g) refl
-
-  pub in_dotted : (v : ℕ) → can_be_dotted (kind_of kind) ≡ true → is_digit x ≡ true → only_zero_in digits sixteen ≡ false → v ≡ digit_value x → leb (ten * 10 + v) 255 ≡ dotted_on kind digits ten sixteen x
-  unfolding dotted_on
-  in_dotted v e f g h = rw (e, f, g) (ap (λ u. leb (ten * 10 + u) 255) h)
-
-module _ (kind : ℕ) (five : Bool) (digits sixteen x : ℕ) where
-  pub not_grouped : can_be_grouped (kind_of kind) ≡ false → false ≡ grouped_on kind five digits sixteen x
-  unfolding grouped_on
-  not_grouped e = rw e refl
-
-  pub no_hex : can_be_grouped (kind_of kind) ≡ true → hex_digit x ≡ false → false ≡ grouped_on kind five digits sixteen x
-  unfolding grouped_on
-  no_hex e f = rw (e, f) refl
-
-  pub group_zero : can_be_grouped (kind_of kind) ≡ true → hex_digit x ≡ true → only_zero_in digits sixteen ≡ true → false ≡ grouped_on kind five digits sixteen x
-  unfolding grouped_on
-  group_zero e f g = rw (e, f, g) refl
-
-  pub not_five : can_be_grouped (kind_of kind) ≡ true → hex_digit x ≡ true → only_zero_in digits sixteen ≡ false → five ≡ false → true ≡ grouped_on kind five digits sixteen x
-  unfolding grouped_on
-  not_five e f g h = rw (e, f, g, h) refl
-
-  pub in_grouped : (v : ℕ) → can_be_grouped (kind_of kind) ≡ true → hex_digit x ≡ true → only_zero_in digits sixteen ≡ false → five ≡ true → v ≡ digit_value x → not (eqb (sixteen * 16 + v) 65535) ≡ grouped_on kind five digits sixteen x
-  unfolding grouped_on
-  in_grouped v e f g h i = rw (e, f, g, h) (ap (λ u. not (eqb (sixteen * 16 + u) 65535)) i)
 
 -- ------------------------------------------------------------------ the end of a number
 

@@ -23,20 +23,14 @@ fn can_group(kind: u8) -> bool
 fn is_zero(digits: u8, sixteen: u16) -> bool
     ensures { result ≡ only_zero_in digits sixteen }
 {
-    if digits == 0 {
-        return false;
-    }
-    sixteen == 0
+    digits != 0 && sixteen == 0
 }
 
 // Whether an octet is a hexadecimal digit in lower case.
 fn is_hex(x: u8) -> bool
     ensures { result ≡ lower_hex x }
 {
-    if text_class::is_digit(x) {
-        return true;
-    }
-    text_class::is_between(x, b'a', b'f')
+    text_class::is_digit(x) || text_class::is_between(x, b'a', b'f')
 }
 
 // The value of a digit.
@@ -44,64 +38,41 @@ pub fn value_of(x: u8) -> u8
     ensures { result ≡ digit_value x }
 {
     if text_class::is_digit(x) {
-        return x - 48;
+        x - 48
+    } else {
+        x.saturating_sub(87)
     }
-    if x < 87 {
-        return 0;
-    }
-    x - 87
 }
 
 // Whether an octet goes on a number of a dotted address.
 pub fn goes_dotted(kind: u8, digits: u8, ten: u16, sixteen: u16, x: u8) -> bool
     ensures { result ≡ dotted_on kind digits ten sixteen x }
 {
-    if !can_dot(kind) {
-        return false;
-    }
-    if !text_class::is_digit(x) {
-        return false;
-    }
-    if is_zero(digits, sixteen) {
-        return false;
-    }
-    let unit = value_of(x) as u32;
-    let tens = ten as u32 * 10;
-    tens + unit <= 255
+    can_dot(kind)
+        && text_class::is_digit(x)
+        && !is_zero(digits, sixteen)
+        && u32::from(ten) * 10 + u32::from(value_of(x)) <= 255
 }
 
 // Whether an octet goes on a group, which makes no mapped address; `five`: five groups 0 stand before it.
 pub fn goes_grouped(kind: u8, five: bool, digits: u8, sixteen: u16, x: u8) -> bool
     ensures { result ≡ grouped_on kind five digits sixteen x }
 {
-    if !can_group(kind) {
-        return false;
-    }
-    if !is_hex(x) {
-        return false;
-    }
-    if is_zero(digits, sixteen) {
-        return false;
-    }
-    if !five {
-        return true;
-    }
-    let unit = value_of(x) as u32;
-    let sixteens = sixteen as u32 * 16;
-    sixteens + unit != 65535
+    can_group(kind)
+        && is_hex(x)
+        && !is_zero(digits, sixteen)
+        && !(five && u32::from(sixteen) * 16 + u32::from(value_of(x)) == 65535)
 }
 
 // Whether the open number is the last of its address.
 fn is_last_number(kind: u8, numbers: u8) -> bool
     ensures { result ≡ is_last (kind_of kind) numbers }
 {
-    if kind == 0 {
-        return false;
+    match kind {
+        0 => false,
+        1 => numbers == 3,
+        _ => numbers == 7,
     }
-    if kind == 1 {
-        return numbers == 3;
-    }
-    numbers == 7
 }
 
 // Whether an octet ends the open number, `numbers` standing before it.
@@ -111,20 +82,10 @@ pub fn ends_number(kind: u8, numbers: u8, digits: u8, x: u8) -> bool
     if digits == 0 {
         return false;
     }
-    if x == 60 {
-        return is_last_number(kind, numbers);
+    match x {
+        b'<' => is_last_number(kind, numbers),
+        b'.' => can_dot(kind) && numbers < 3,
+        b':' => can_group(kind) && numbers < 7,
+        _ => false,
     }
-    if x == 46 {
-        if can_dot(kind) {
-            return numbers < 3;
-        }
-        return false;
-    }
-    if x == 58 {
-        if can_group(kind) {
-            return numbers < 7;
-        }
-        return false;
-    }
-    false
 }

@@ -2,14 +2,13 @@
 use mathlib.Core.Path.{◌≡◌, refl, sym, ap, ◌∙◌, subst}
 use mathlib.Core.List.{List, [], ◌∷◌, ◌++◌}
 use mathlib.Core.Bool.{Bool, true, false, ◌&&◌, ◌||◌, not, false≢true, and-false}
-use mathlib.Core.Option.{Option, none as nothing, some as just, none-ne-some}
 use Prim.Native.Nat.{ℕ, zero, suc, ◌+◌, ◌-◌, ◌*◌, ◌^◌, ◌<◌, ◌≤◌}
 use Prim.Native.String.{String}
 use native.Mathlib.Omega.{arith}
 use lib.Dec.{eqb, leb, ltb}
 use lib.ListN.{length}
 use borrow.Author.Tests.{leb-true, eqb-true, eqb-false}
-use Rattle.std.specs.Prelude.{if◌then◌else◌}
+use Rattle.std.specs.Prelude.{if◌then◌else◌, Option, None, Some}
 use Rattle.octets.specs.Octets.{Octets, octets, all, is_digit}
 use Rattle.policy.specs.declared.Policy.{Policy}
 use Rattle.rows.specs.Lists.{Reported}
@@ -24,6 +23,7 @@ use Rattle.report_form.specs.code.ReportReading.{digits_from, address_from, read
 use Rattle.report_form.specs.code.ReportReading.{signature, sender}
 use Rattle.report_form.specs.code.ReportReading.{Item, dkim_item, spf_item, no_item, item, results_from, reading_row as row, records_from, extra_or_id, PolicyTag, sp_tag, np_tag, adkim_tag}
 use Rattle.report_form.specs.code.ReportReading.{np_then, policies, report_by, reading_report}
+use Rattle.std.proofs.lemmas.Option.{none-some}
 
 -- ------------------------------------------------------------------ how programs are put together
 
@@ -136,13 +136,13 @@ unfolding over
 over_more zero v w most h o = omega (arith, h, o)
 over_more (suc k) v w most h o = over_more k (v * 10) (w * 10) most (omega (arith, h)) o
 
-split : (a b : Bool) → ◌≡◌ {A = Option ℕ} (if a then (if b then nothing else just 21) else just 20) nothing → (a ≡ true) × (b ≡ true)
+split : (a b : Bool) → ◌≡◌ {A = Option ℕ} (if a then (if b then None else Some 21) else Some 20) None → (a ≡ true) × (b ≡ true)
 split true true e = (refl, refl)
-split true false e = absurd (none-ne-some 21 (sym e))
-split false b e = absurd (none-ne-some 20 (sym e))
+split true false e = absurd (none-some 21 (sym e))
+split false b e = absurd (none-some 20 (sym e))
 
 module _ (least most : ℕ) (ends : ℕ → Bool) where
-  taken_digit : (value : ℕ) (some : Bool) (x : ℕ) → eqb x 60 ≡ false → number_refused least most ends value some x ≡ nothing
+  taken_digit : (value : ℕ) (some : Bool) (x : ℕ) → eqb x 60 ≡ false → number_refused least most ends value some x ≡ None
       → (not (some && eqb value 0) ≡ true) × (leb (value * 10 + (x - 48)) most ≡ true)
   unfolding number_refused digit_refused
   taken_digit value some x q e =
@@ -157,12 +157,12 @@ module _ (least most : ℕ) (ends : ℕ → Bool) where
   within_digits k zero value o = λ x e. tt
   within_digits zero (suc n) value o = λ x e. go x e (eqb x 60) refl
     where
-      go : (x : ℕ) → number_refused least most ends value true x ≡ nothing → (b : Bool) → eqb x 60 ≡ b → Within 0 (more n value x b)
+      go : (x : ℕ) → number_refused least most ends value true x ≡ None → (b : Bool) → eqb x 60 ≡ b → Within 0 (more n value x b)
       go x e true q = tt
       go x e false q = absurd (omega (arith, o, leb-true (value * 10 + (x - 48)) most (taken_digit value true x q e).1))
   within_digits (suc k) (suc n) value o = λ x e. go x e (eqb x 60) refl (within_digits k n (value * 10 + (x - 48)) (over_more k (value * 10) (value * 10 + (x - 48)) most (omega arith) o))
     where
-      go : (x : ℕ) → number_refused least most ends value true x ≡ nothing → (b : Bool) → eqb x 60 ≡ b
+      go : (x : ℕ) → number_refused least most ends value true x ≡ None → (b : Bool) → eqb x 60 ≡ b
           → Within {R = Said} (suc k) (digits_more n least most ends (value * 10 + (x - 48)) true) → Within (suc k) (more n value x b)
       go x e true q w = tt
       go x e false q w = w
@@ -172,7 +172,7 @@ module _ (least most : ℕ) (ends : ℕ → Bool) where
   within_zero zero value z = λ x e. tt
   within_zero (suc n) value z = λ x e. go x e (eqb x 60) refl
     where
-      go : (x : ℕ) → number_refused least most ends value true x ≡ nothing → (b : Bool) → eqb x 60 ≡ b → Within 0 (more n value x b)
+      go : (x : ℕ) → number_refused least most ends value true x ≡ None → (b : Bool) → eqb x 60 ≡ b → Within 0 (more n value x b)
       go x e true q = tt
       go x e false q = let no : false ≡ true = (rw z at (taken_digit value true x q e).0) in absurd (false≢true no)
 

@@ -1,45 +1,46 @@
 -- Laws of the refusals of a report.
+use Rattle.std.specs.Prelude.{Option, None, Some, Result, Ok, Err}
 use mathlib.Core.Path.{◌≡◌, refl, sym, ap, ◌∙◌}
 use mathlib.Core.List.{List, [], ◌∷◌, map}
 use mathlib.Core.Bool.{Bool, true, false, ◌&&◌, not, true≢false}
-use mathlib.Core.Option.{Option, none as nothing, some as just}
-use Prim.Native.Nat.{ℕ, zero, suc}
+use Prim.Native.Nat.{ℕ}
 use native.Mathlib.Omega.{arith}
-use lib.Dec.{leb}
+use lib.Dec.{eqb}
 use lib.ListN.{length}
-use borrow.Author.Tests.{not-true, not-false}
+use borrow.Author.Tests.{ne_eqb, not-false}
 use Rattle.octets.specs.Octets.{Octets, is_empty, is_nothing, all, lower}
-use Rattle.octets.specs.Refusing.{◌>>=◌, OrRefused, ok, not_ok, refusal, refuse_if, or_refuse}
+use Rattle.octets.specs.declared.Refusal.{Refusal}
+use Rattle.octets.specs.Refusing.{◌>>=◌, OrRefused, ok, not_ok, refuse_if, or_refuse}
 use Rattle.octets.specs.Framing.{body_of, is_whole}
-use Rattle.domain.specs.Domain.{Domain, without_dot, is_domain}
+use Rattle.domain.specs.Domain.{Domain, without_dot}
 use Rattle.policy.specs.declared.Settings.{Settings}
 use Rattle.alignment.specs.Alignments.{Identifier}
 use Rattle.book.specs.Start.{identifiers_from}
-use Rattle.reporting.specs.FileName.{good_id}
 use Rattle.rows.specs.declared.Row.{Row}
 use Rattle.rows.specs.Lists.{Lists, Reported, Named, first_body, set_in, with_good_domain, good_set, set_of, both_named, named_by}
 use Rattle.rows.specs.Rows.{is_free, on_list}
 use Rattle.rows_named.specs.code.Naming.{records_after}
 use Rattle.rows_named.proofs.NamingLaws.{at_place, no_author, no_set}
-use Rattle.report.specs.Report.{Reporter, Line, report_text, counted_rows, add_line, lines, good_text, good_texts, good_line, good_file, report}
+use Rattle.report.specs.Report.{Reporter, Line, report_text, counted_rows, add_line, lines, good_texts, good_line, good_file, report}
 use Rattle.report.proofs.SizeLaws.{both_hold}
 use Rattle.report_rows.specs.code.Lines.{author_at, set_at, names_at, line_of}
+use Rattle.report_judge.specs.declared.Test.{Test}
 use Rattle.report_judge.specs.code.Judging.{is_named, counted_passes, passes_test}
 use Rattle.report_check.specs.code.Faults.{fault_by, first_fault}
 
 -- ------------------------------------------------------------------ tests of all rows, and of those that count
 
 -- a set that passes is itself
-both : (d : Octets) (is : List Reported) → not (is_nothing (both_named (just d) (good_set is))) ≡ true → both_named (just d) (good_set is) ≡ just (record { author = without_dot d; identifiers = is })
+both : (d : Octets) (is : List Reported) → not (is_nothing (both_named (Some d) (good_set is))) ≡ true → both_named (Some d) (good_set is) ≡ Some (record { author = without_dot d; identifiers = is })
 unfolding good_set both_named is_nothing
 both d is e = go (identifiers_from 0 false (map with_good_domain is)) refl
   where
-    go : (x : OrRefused (List Identifier)) → identifiers_from 0 false (map with_good_domain is) ≡ x → both_named (just d) (good_set is) ≡ just (record { author = without_dot d; identifiers = is })
+    go : (x : OrRefused (List Identifier)) → identifiers_from 0 false (map with_good_domain is) ≡ x → both_named (Some d) (good_set is) ≡ Some (record { author = without_dot d; identifiers = is })
     go (ok y) f = rw (f, good_set)
     go (not_ok q) f = absurd (true≢false (sym (rw (f, good_set) at e)))
 
 module _ (l : Lists) where
-  counted_pass : (n : ℕ) (rs : List Row) → all (passes_test n l) rs ≡ all (counted_passes n l) (counted_rows rs)
+  counted_pass : (n : Test) (rs : List Row) → all (passes_test n l) rs ≡ all (counted_passes n l) (counted_rows rs)
   unfolding all counted_rows passes_test
   counted_pass n [] = refl
   counted_pass n (r ∷ rs) = go (counted_pass n rs) (is_free r) refl
@@ -48,68 +49,68 @@ module _ (l : Lists) where
       go ih true e = rw (e, counted_rows) ih
       go ih false e = rw (e, counted_rows) (ap (λ b. counted_passes n l r && b) ih)
 
-  pub none_counted : (rs : List Row) → all (passes_test 0 l) rs ≡ is_empty (counted_rows rs)
+  pub none_counted : (rs : List Row) → all (passes_test Test.Free l) rs ≡ is_empty (counted_rows rs)
   unfolding all counted_passes
-  none_counted rs = counted_pass 0 rs ∙ go (counted_rows rs)
+  none_counted rs = counted_pass Test.Free rs ∙ go (counted_rows rs)
     where
-      go : (rs : List Row) → all (counted_passes 0 l) rs ≡ is_empty rs
+      go : (rs : List Row) → all (counted_passes Test.Free l) rs ≡ is_empty rs
       go [] = refl
       go (r ∷ rs) = refl
 
-  pub all_named : (rs : List Row) → all (passes_test 1 l) rs ≡ all (is_named l) (counted_rows rs)
+  pub all_named : (rs : List Row) → all (passes_test Test.Named l) rs ≡ all (is_named l) (counted_rows rs)
   unfolding all counted_passes
-  all_named rs = counted_pass 1 rs ∙ go (counted_rows rs)
+  all_named rs = counted_pass Test.Named rs ∙ go (counted_rows rs)
     where
-      go : (rs : List Row) → all (counted_passes 1 l) rs ≡ all (is_named l) rs
+      go : (rs : List Row) → all (counted_passes Test.Named l) rs ≡ all (is_named l) rs
       go [] = refl
       go (r ∷ rs) = ap (λ b. is_named l r && b) (go rs)
 
-  pub all_good : (rs : List Row) → all (passes_test 2 l) rs ≡ all good_line (map (line_of l) (counted_rows rs))
+  pub all_good : (rs : List Row) → all (passes_test Test.Ruled l) rs ≡ all good_line (map (line_of l) (counted_rows rs))
   unfolding all counted_passes
-  all_good rs = counted_pass 2 rs ∙ go (counted_rows rs)
+  all_good rs = counted_pass Test.Ruled rs ∙ go (counted_rows rs)
     where
-      go : (rs : List Row) → all (counted_passes 2 l) rs ≡ all good_line (map (line_of l) rs)
+      go : (rs : List Row) → all (counted_passes Test.Ruled l) rs ≡ all good_line (map (line_of l) rs)
       go [] = refl
       go (r ∷ rs) = ap (λ b. good_line (line_of l r) && b) (go rs)
 
   named_is : (a s : ℕ) → is_whole (records_after a l.authors) ≡ true → is_whole (records_after s l.sets) ≡ true
-      → named_by l a s ≡ both_named (just (body_of (records_after a l.authors))) (good_set (set_in (body_of (records_after s l.sets))))
+      → named_by l a s ≡ both_named (Some (body_of (records_after a l.authors))) (good_set (set_in (body_of (records_after s l.sets))))
   unfolding named_by set_of first_body
   named_is a s e f = rw (at_place a l.authors, at_place s l.sets, e, f)
 
   -- what is named, where 28 is not due
-  named_just : (a s : ℕ) → not (is_nothing (named_by l a s)) ≡ true → named_by l a s ≡ just (names_at l a s)
+  named_just : (a s : ℕ) → not (is_nothing (named_by l a s)) ≡ true → named_by l a s ≡ Some (names_at l a s)
   unfolding names_at author_at set_at
   named_just a s e = go (is_whole (records_after a l.authors)) refl (is_whole (records_after s l.sets)) refl
     where
-      go : (b : Bool) → is_whole (records_after a l.authors) ≡ b → (c : Bool) → is_whole (records_after s l.sets) ≡ c → named_by l a s ≡ just (names_at l a s)
+      go : (b : Bool) → is_whole (records_after a l.authors) ≡ b → (c : Bool) → is_whole (records_after s l.sets) ≡ c → named_by l a s ≡ Some (names_at l a s)
       go false f c g = absurd (true≢false (sym e ∙ sym (no_author l.authors l.sets a s f)))
       go true f false g = absurd (true≢false (sym e ∙ sym (no_set l.authors l.sets a s f g)))
       go true f true g = named_is a s f g ∙ both (body_of (records_after a l.authors)) (set_in (body_of (records_after s l.sets))) (rw (named_is a s f g) at e)
 
-  add_named : (r : Row) (o : Option Named) (ls : Option (List Line)) → is_nothing o ≡ true → add_line r o ls ≡ nothing
+  add_named : (r : Row) (o : Option Named) (ls : Option (List Line)) → is_nothing o ≡ true → add_line r o ls ≡ None
   unfolding add_line is_nothing
-  add_named r nothing ls e = refl
-  add_named r (just n) ls e = absurd (true≢false (sym e))
+  add_named r None ls e = refl
+  add_named r (Some n) ls e = absurd (true≢false (sym e))
 
-  add_none : (r : Row) (o : Option Named) → add_line r o nothing ≡ nothing
+  add_none : (r : Row) (o : Option Named) → add_line r o None ≡ None
   unfolding add_line
-  add_none r nothing = refl
-  add_none r (just n) = refl
+  add_none r None = refl
+  add_none r (Some n) = refl
 
-  lines_named : (rs : List Row) → all (is_named l) rs ≡ true → lines l rs ≡ just (map (line_of l) rs)
+  lines_named : (rs : List Row) → all (is_named l) rs ≡ true → lines l rs ≡ Some (map (line_of l) rs)
   unfolding lines all add_line line_of is_named
   lines_named [] e = refl
   lines_named (r ∷ rs) e =
       let (f, g) = both_hold (is_named l r) (all (is_named l) rs) e in
       rw (named_just r.seen.author r.seen.set f, lines_named rs g)
 
-  lines_none : (rs : List Row) → all (is_named l) rs ≡ false → lines l rs ≡ nothing
+  lines_none : (rs : List Row) → all (is_named l) rs ≡ false → lines l rs ≡ None
   unfolding lines all is_named
   lines_none [] e = absurd (true≢false e)
   lines_none (r ∷ rs) e = go (is_named l r) refl (lines_none rs)
     where
-      go : (b : Bool) → is_named l r ≡ b → (all (is_named l) rs ≡ false → lines l rs ≡ nothing) → lines l (r ∷ rs) ≡ nothing
+      go : (b : Bool) → is_named l r ≡ b → (all (is_named l) rs ≡ false → lines l rs ≡ None) → lines l (r ∷ rs) ≡ None
       go true f ih = rw (ih (rw f at e)) (add_none r (named_by l r.seen.author r.seen.set))
       go false f ih = add_named r (named_by l r.seen.author r.seen.set) (lines l rs) (not-false (is_nothing (named_by l r.seen.author r.seen.set)) f)
 
@@ -120,26 +121,26 @@ module _ (d : Domain) (rows : List Row) (l : Lists) (by : Reporter) (s : Setting
   rs = on_list rows
 
   abbrev the_report : OrRefused Octets
-  the_report = report (record { domain = just d; rows = rows }) l by s
+  the_report = report (record { domain = Some d; rows = rows }) l by s
 
   -- what is written where nothing is refused
   unfoldable pub written_lines : List Line
   written_lines = map (line_of l) (counted_rows rs)
 
-  unfoldable pub given : ℕ → OrRefused Octets
-  given zero = ok (report_text (lower d) s by written_lines)
-  given (suc n) = not_ok (refusal (suc n) 0)
+  unfoldable pub given : Result (Unit {0}) Refusal → OrRefused Octets
+  given (Ok done) = ok (report_text (lower d) s by written_lines)
+  given (Err f) = not_ok f
 
   -- the tests that are made, and what they say
   abbrev Judged : (free named texts file good : Bool) → Type 0
   Judged free named texts file good =
-      (all (passes_test 0 l) rs ≡ free) × (all (passes_test 1 l) rs ≡ named) × (good_texts by.organization by.email by.contact ≡ texts)
-      × (good_file d by.id by.begin by.end ≡ file) × (all (passes_test 2 l) rs ≡ good)
+      (all (passes_test Test.Free l) rs ≡ free) × (all (passes_test Test.Named l) rs ≡ named) × (good_texts by.organization by.email by.contact ≡ texts)
+      × (good_file d by.id by.begin by.end ≡ file) × (all (passes_test Test.Ruled l) rs ≡ good)
 
-  some_row : all (passes_test 0 l) rs ≡ false → is_empty (counted_rows rs) ≡ false
+  some_row : all (passes_test Test.Free l) rs ≡ false → is_empty (counted_rows rs) ≡ false
   some_row e = sym (none_counted l rs) ∙ e
 
-  all_lines : all (passes_test 1 l) rs ≡ true → lines l (counted_rows rs) ≡ just (map (line_of l) (counted_rows rs))
+  all_lines : all (passes_test Test.Named l) rs ≡ true → lines l (counted_rows rs) ≡ Some (map (line_of l) (counted_rows rs))
   all_lines e = lines_named l (counted_rows rs) (sym (all_named l rs) ∙ e)
 
   report_by : (free named texts file good : Bool) → Judged free named texts file good → the_report ≡ given (fault_by free named texts file good)
@@ -157,49 +158,6 @@ module _ (d : Domain) (rows : List Row) (l : Lists) (by : Reporter) (s : Setting
 
 -- ------------------------------------------------------------------ texts
 
-module _ (o e c : Octets) where
-  empty_is : (s : Octets) → length s ≡ 0 → is_empty s ≡ true
-  empty_is [] h = refl
-  empty_is (x ∷ s) h = absurd (omega (arith, h))
-
-  filled_is : (s : Octets) → (length s ≡ 0 → ⊥) → is_empty s ≡ false
-  filled_is [] h = absurd (h refl)
-  filled_is (x ∷ s) h = refl
-
-  pub no_organization : length o ≡ 0 → false ≡ good_texts o e c
-  unfolding good_texts
-  no_organization h = rw (empty_is o h)
-
-  module _ (h : length o ≡ 0 → ⊥) where
-    pub no_email : length e ≡ 0 → false ≡ good_texts o e c
-    unfolding good_texts
-    no_email k = rw (filled_is o h, empty_is e k)
-
-    module _ (k : length e ≡ 0 → ⊥) {a : Bool} (p : a ≡ good_text o) where
-      pub bad_organization : not a ≡ true → false ≡ good_texts o e c
-      unfolding good_texts
-      bad_organization n = rw (filled_is o h, filled_is e k, sym p ∙ not-true a n)
-
-      module _ (n : not a ≡ false) {b : Bool} (q : b ≡ good_text e) where
-        pub bad_email : not b ≡ true → false ≡ good_texts o e c
-        unfolding good_texts
-        bad_email m = rw (filled_is o h, filled_is e k, sym p ∙ not-false a n, sym q ∙ not-true b m)
-
-        pub by_contact : not b ≡ false → {r : Bool} → r ≡ good_text c → r ≡ good_texts o e c
-        unfolding good_texts
-        by_contact m f = f ∙ rw (filled_is o h, filled_is e k, sym p ∙ not-false a n, sym q ∙ not-false b m)
-
--- ------------------------------------------------------------------ domain, id and times
-
-module _ (d : Domain) (i : Octets) (b n : ℕ) where
-  pub bad_domain : is_domain d ≡ false → false ≡ good_file d i b n
-  unfolding good_file
-  bad_domain e = rw e
-
-  pub bad_id : is_domain d ≡ true → good_id i ≡ false → false ≡ good_file d i b n
-  unfolding good_file
-  bad_id e f = rw (e, f)
-
-  pub by_times : is_domain d ≡ true → good_id i ≡ true → leb b n ≡ good_file d i b n
-  unfolding good_file
-  by_times e f = rw (e, f)
+pub empty_test : (s : Octets) → eqb (length s) 0 ≡ is_empty s
+empty_test [] = refl
+empty_test (x ∷ s) = ne_eqb (length (x ∷ s)) 0 (λ e. absurd (omega (arith, e)))

@@ -1,34 +1,38 @@
 -- Laws of words: where each leads.
 use mathlib.Core.Path.{◌≡◌, refl, sym, ap, ◌∙◌, subst}
-use mathlib.Core.List.{List, [], ◌∷◌, ◌++◌, map, flatten}
-use mathlib.Core.Bool.{Bool, true, false, ◌||◌, not, false≢true}
-use mathlib.Core.Option.{Option, none as nothing, some as just, none-ne-some, some-injective}
+use mathlib.Core.List.{List, [], ◌∷◌, flatten}
+use mathlib.Core.Bool.{Bool, true, false, false≢true}
 use Prim.Native.Nat.{ℕ, zero, suc, ◌+◌, ◌-◌, ◌≤◌, ◌<◌}
 use Prim.Native.String.{String}
 use native.Mathlib.Omega.{arith}
 use lib.Dec.{eqb, leb, ltb}
-use lib.ListN.{length, take, drop, get_or}
-use borrow.Author.Tests.{eq-eqb, ne_eqb, lt-ltb, le-leb, eqb-true, eqb-false, lt-leb}
-use Rattle.std.specs.Prelude.{if◌then◌else◌}
-use Rattle.octets.specs.Octets.{Octets, octets, is_set, flag, between}
-use Rattle.octets.proofs.TextLaws.{flag_said}
-use Rattle.parsing.specs.Reads.{Reads, done, ◌>>◌, exactly}
-use Rattle.parsing_steps.specs.Stepping.{Step, on, refused, step_of, behind}
+use lib.ListN.{length, drop, take, get_or}
+use borrow.Author.Tests.{lt-ltb, le-leb, eqb-false, lt-leb}
+use Rattle.std.specs.Prelude.{if◌then◌else◌, Option, None, Some}
+use Rattle.octets.specs.Octets.{Octets, octets, flag, between}
+use Rattle.octets.proofs.TextLaws.{flag_said, true→T}
+use Rattle.parsing.specs.Reads.{◌>>◌, exactly}
+use Rattle.parsing_steps.specs.Stepping.{on, step_of, behind}
 use Rattle.parsing_steps.proofs.StepLaws.{behind_past, done_on}
 use Rattle.report_form.specs.ReportForm.{Said}
 use Rattle.report_form.specs.code.ReportReading.{first_is}
 use Rattle.report_states.specs.Chain.{Open, with_disposition, with_dkim, with_spf, with_outcome, with_left}
-use Rattle.report_states.specs.Standing.{Word, Node, Goes, literal_node, word_node, text_node, id_node, last_node, t_extra, l_signature, l_sender, l_record_end, l_row, l_dkim_end, l_spf_end, by, arrive, literal_text, words, pick_from, pick, picked, word_goes, from_word, word_left, disposition_numbered, nodes, node_of, left_at, w_extra, w_p, w_tags, w_sp, w_second, w_np, w_adkim, w_aspf, w_testing, w_disposition, w_dkim, w_spf, w_item, w_signature, w_sender, w_more}
+use Rattle.report_states.specs.Standing.{Word, literal_node, word_node, last_node, l_row, l_dkim_end, l_spf_end, by, arrive, literal_text, words, pick_from, pick, picked, word_goes, word_left, nodes, node_of, left_at, w_extra, w_p, w_tags, w_sp, w_second, w_np, w_adkim, w_aspf, w_testing, w_disposition, w_dkim, w_spf, w_item, w_signature, w_sender, w_more}
 use Rattle.report_states.proofs.NodeLaws.{word_law}
-use Rattle.report_leaves.specs.code.Leaves.{meant}
-use Rattle.report_words.specs.code.Table.{literals, word_nodes, texts, words_at, pick_octets, first_of, place_number}
-use Rattle.report_words.proofs.PieceSteps.{picks_word}
+use Rattle.std.specs.Prelude.{Result, Ok, Err}
+use Rattle.report_steps.specs.declared.Leaf.{Leaf}
+use Rattle.report_steps.specs.declared.Refusal.{Refusal}
+use Rattle.report_steps.specs.code.Steps.{refusal_number}
+use Rattle.report_leaves.specs.code.Leaves.{said}
+use Rattle.report_words.specs.code.Table.{literals, word_nodes, texts, words_at, pick_octets, first_of}
+use Rattle.report_words.proofs.PieceSteps.{Answer, PieceSays, Four, picks_word}
 use Rattle.report_values.proofs.NodeSteps.{goes, word_step}
 use Rattle.report_kept.specs.declared.ReaderState.{ReaderState}
 use Rattle.report_kept.specs.declared.Turn.{Turn}
-use Rattle.report_kept.specs.code.View.{known_of, place_of, kept_of, so_far_in, within_identifier, is_broken, left_in, said_in, laid, laid_at, write, turn_step, Turned, Leaves, arrived, on_word, flagged, judged, unwritten, plain}
+use Rattle.report_kept.specs.code.View.{known_of, place_of, kept_of, so_far_in, within_identifier, is_broken, left_in, write, turn_step, Turned, Leaves, arrived, on_word, flagged, judged, plain}
 use Rattle.report_kept.proofs.ArriveLaws.{left_other, leaves_to}
-use Rattle.report_choices.specs.code.Choices.{word_of, first_number, word_count, is_single, plain_next, by_place, word_next, one_record, chosen_by, LeavesWord, BeginsWord, TurnsWord}
+use Rattle.report_choices.specs.code.Choices.{word_of, first_number, word_count, is_single, plain_next, word_next, one_record, chosen_by}
+use Rattle.std.proofs.lemmas.Option.{none-some, same_Some}
 
 unfoldable Each : ℕ → (ℕ → Type 0) → Type 0
 Each zero P = Unit
@@ -407,13 +411,13 @@ fine_word w_sender k i h = (h, refl)
 fine_word w_more k i h = fine_two i 14 65 (refl, refl) (refl, refl) (eqb k 0)
 
 -- the first word that an octet begins is one of them
-pick_less : (j x : ℕ) (vs : List String) (k : ℕ) → pick_from j x vs ≡ just k → k < j + length vs
+pick_less : (j x : ℕ) (vs : List String) (k : ℕ) → pick_from j x vs ≡ Some k → k < j + length vs
 unfolding pick_from
-pick_less j x [] k e = absurd (none-ne-some k e)
+pick_less j x [] k e = absurd (none-some k e)
 pick_less j x (v ∷ vs) k e = go (first_is x (octets v)) refl (pick_less (suc j) x vs k)
   where
-    go : (b : Bool) → first_is x (octets v) ≡ b → (pick_from (suc j) x vs ≡ just k → k < suc j + length vs) → k < j + suc (length vs)
-    go true q more = let same = some-injective j k (rw (q, pick_from) at e) in omega (arith, same)
+    go : (b : Bool) → first_is x (octets v) ≡ b → (pick_from (suc j) x vs ≡ Some k → k < suc j + length vs) → k < j + suc (length vs)
+    go true q more = let same = same_Some j k (rw (q, pick_from) at e) in omega (arith, same)
     go false q more = let less = more (rw (q, pick_from) at e) in omega (arith, less)
 
 few_words : (w : Word) → length (words w) ≤ 4
@@ -435,21 +439,27 @@ few_words w_signature = omega arith
 few_words w_sender = omega arith
 few_words w_more = omega arith
 
-none_picked : (w : Word) (x : ℕ) → place_number (pick x (words w)) ≡ 255 → pick x (words w) ≡ nothing
-unfolding pick place_number
-none_picked w x e = go (pick_from 0 x (words w)) refl
+pick_below : (k x : ℕ) (ts : List Octets) (j : ℕ) → pick_octets k x ts ≡ Some j → j < k + length ts
+unfolding pick_octets
+pick_below k x [] j e = absurd (true→T {b = false} (cc e))
+pick_below k x (t ∷ ts) j e = go (first_is x t) refl (pick_below (suc k) x ts j)
   where
-    go : (o : Option ℕ) → pick_from 0 x (words w) ≡ o → pick_from 0 x (words w) ≡ nothing
-    go nothing q = q
-    go (just k) q = let less = pick_less 0 x (words w) k q in let few = few_words w in let same : k ≡ 255 = ap place_number (sym q) ∙ e in absurd (omega (arith, less, few, same))
+    go : (b : Bool) → first_is x t ≡ b → (pick_octets (suc k) x ts ≡ Some j → j < suc k + length ts) → j < k + suc (length ts)
+    go true q h = let same : k ≡ j = cc (rw (q, pick_octets) at e) in omega (arith, same)
+    go false q h = let less = h (rw (q, pick_octets) at e) in omega (arith, less)
 
-one_picked : (w : Word) (x k : ℕ) → place_number (pick x (words w)) ≡ k → (k ≡ 255 → ⊥) → (pick x (words w) ≡ just k) × (k < length (words w))
-unfolding pick place_number
-one_picked w x k e h = go (pick_from 0 x (words w)) refl
-  where
-    go : (o : Option ℕ) → pick_from 0 x (words w) ≡ o → (pick_from 0 x (words w) ≡ just k) × (k < length (words w))
-    go nothing q = absurd (h (sym e ∙ ap place_number q))
-    go (just j) q = let same : j ≡ k = ap place_number (sym q) ∙ e in let less = pick_less 0 x (words w) j q in (q ∙ ap just same, omega (arith, less, same))
+length_take : (n : ℕ) (ts : List Octets) → length (take n ts) ≤ length ts
+length_take zero ts = omega arith
+length_take (suc n) [] = omega arith
+length_take (suc n) (t ∷ ts) = let less = length_take n ts in omega (arith, less)
+
+pub picked_few : (x first count k : ℕ) → Some k ≡ pick_octets 0 x (words_at first count) → k < 4
+unfolding words_at
+picked_few x first count k e = let less = pick_below 0 x (words_at first count) k (sym e) in let few = length_take count (Four first) in omega (arith, less, few)
+
+one_picked : (w : Word) (x k : ℕ) → pick x (words w) ≡ Some k → k < length (words w)
+unfolding pick
+one_picked w x k e = let less = pick_less 0 x (words w) k e in omega (arith, less)
 
 -- ------------------------------------------------------------------ an octet
 
@@ -464,7 +474,7 @@ module _ (s : ReaderState) (a : 36 ≤ s.node) (b : s.node < 52) (calm : is_brok
   here : s.node ≡ number_of wd
   here = above s.node a b
 
-  pub leaves_word : (k : ℕ) → Leaves s (λ o. word_goes wd o k) (plain 0 (arrived (word_next s.node k) (chosen_by s.node k s)))
+  pub leaves_word : (k : ℕ) → Leaves s (λ o. word_goes wd o k) (Ok (plain false (arrived (word_next s.node k) (chosen_by s.node k s))))
   unfolding Fine
   leaves_word k =
       let fine = fine_word wd k s.identifiers (ap (λ n. is_broken n s.identifiers) (sym here) ∙ calm) in
@@ -484,28 +494,29 @@ module _ (s : ReaderState) (a : 36 ≤ s.node) (b : s.node < 52) (calm : is_brok
     first_step x row =
         ap (λ t. step_of t x) (left_word s row refl refl) ∙ ap (λ i. step_of (word_left wd (known_of s row) i s.at) x) begins ∙ word_law wd (known_of s row) x
 
-    abbrev Picks : (x r : ℕ) → Type 0
+    abbrev Picks : (x : ℕ) → Option ℕ → Type 0
     Picks x r = r ≡ pick_octets 0 x (words_at (first_number s.node) (word_count s.node))
 
-    place_picked : (x r : ℕ) → Picks x r → place_number (pick x (words wd)) ≡ r
+    place_picked : (x : ℕ) (r : Option ℕ) → Picks x r → pick x (words wd) ≡ r
     place_picked x r e =
         sym (picks_word wd x) ∙ (λ j. pick_octets 0 x (words_at (sym (first_word wd) j) (sym (count_words wd) j))) ∙ ap (λ n. pick_octets 0 x (words_at (first_number n) (word_count n))) (sym here) ∙ sym e
 
-    pub turns_none : (x r : ℕ) → Picks x r → r ≡ 255 → Turned s false x (plain 20 s)
-    unfolding picked turn_step plain
-    turns_none x r e q row l f = first_step x row ∙ ap (picked (words wd) (word_goes wd (known_of s row))) (none_picked wd x (place_picked x r e ∙ q))
+    pub turns_none : (x : ℕ) → Picks x None → Turned s false x (Err Refusal.Outside)
+    unfolding picked turn_step refusal_number
+    turns_none x e row l f = first_step x row ∙ ap (picked (words wd) (word_goes wd (known_of s row))) (place_picked x None e)
 
-    pub turns_single : (x k : ℕ) (r : Turn) → Picks x k → (k ≡ 255 → ⊥) → is_single s.node ≡ true → Leaves s (λ o. word_goes wd o k) r → Turned s false x r
+    pub turns_single : (x k : ℕ) (r : Result Turn Refusal) → Picks x (Some k) → is_single s.node ≡ true → Leaves s (λ o. word_goes wd o k) r → Turned s false x r
     unfolding picked ◌>>◌ exactly
-    turns_single x k r e q i g row l f =
-        first_step x row ∙ ap (picked (words wd) (word_goes wd (known_of s row))) (one_picked wd x k (place_picked x k e) q).0
+    turns_single x k r e i g row l f =
+        first_step x row ∙ ap (picked (words wd) (word_goes wd (known_of s row))) (place_picked x (Some k) e)
         ∙ ap (λ t. on (exactly t >> arrive (word_goes wd (known_of s row) k))) (one_octet wd k (ap is_single (sym here) ∙ i))
         ∙ ap on (done_on tt (λ _. arrive (word_goes wd (known_of s row) k))) ∙ g row l
 
-    pub turns_begun : (x k : ℕ) → Picks x k → (k ≡ 255 → ⊥) → is_single s.node ≡ false → Turned s false x (plain 0 (on_word (k + 1) 1 s))
-    unfolding picked turn_step plain write unwritten laid_at laid left_at word_left place_of kept_of known_of so_far_in on_word behind
-    turns_begun x k e q i row l f =
-        let (is, less) = one_picked wd x k (place_picked x k e) q in
+    pub turns_begun : (x k : ℕ) → Picks x (Some k) → is_single s.node ≡ false → Turned s false x (Ok (plain false (on_word (k + 1) 1 s)))
+    unfolding picked turn_step plain write left_at word_left place_of kept_of known_of so_far_in on_word behind
+    turns_begun x k e i row l f =
+        let is = place_picked x (Some k) e in
+        let less = one_picked wd x k is in
         let one : k + 1 ≡ suc k = omega arith in
         let long = lt-ltb 1 (length (octets (get_or (words wd) k ""))) (more_octets wd k (ap is_single (sym here) ∙ i) less) in
         first_step x row ∙ ap (picked (words wd) (word_goes wd (known_of s row))) is
@@ -517,27 +528,26 @@ module _ (s : ReaderState) (a : 36 ≤ s.node) (b : s.node < 52) (calm : is_brok
 
   -- behind the first octet
   module _ (k : ℕ) (open_word : s.which ≡ suc k) where
-    abbrev Says : (x says : ℕ) → Type 0
-    Says x says = step_of (behind {R = Said} s.at (get_or texts (first_number s.node + k) [])) x ≡ meant says (behind (s.at + 1) (get_or texts (first_number s.node + k) [])) tt
+    abbrev Says : ℕ → Answer → Type 0
+    Says x r = PieceSays (get_or texts (first_number s.node + k) []) s.at x r
 
-    later_step : (x says : ℕ) (row : Octets) → step_of (behind {R = Said} s.at (octets (get_or (words wd) k ""))) x ≡ meant says (behind (s.at + 1) (octets (get_or (words wd) k ""))) tt
-        → step_of (left_in s row) x ≡ goes says (left_in (on_word s.which (s.at + 1) s) row) (arrive (word_goes wd (known_of s row) k))
+    later_step : (x : ℕ) (r : Answer) (row : Octets) → PieceSays (octets (get_or (words wd) k "")) s.at x r
+        → step_of (left_in s row) x ≡ goes (λ _. left_in (on_word s.which (s.at + 1) s) row) (arrive (word_goes wd (known_of s row) k)) r
     unfolding kept_of so_far_in known_of on_word place_of
-    later_step x says row e =
+    later_step x r row e =
         ap (λ t. step_of t x) (left_word s row refl refl)
-        ∙ word_step (place_of s) (place_of (on_word s.which (s.at + 1) s)) (kept_of s row) x says wd k open_word open_word refl e
-        ∙ ap (λ t. goes says t (arrive (word_goes wd (known_of s row) k))) (sym (left_word (on_word s.which (s.at + 1) s) row refl refl))
+        ∙ word_step (place_of s) (place_of (on_word s.which (s.at + 1) s)) (kept_of s row) x wd k r open_word open_word refl e
+        ∙ ap (λ t. goes (λ _. t) (arrive (word_goes wd (known_of s row) k)) r) (sym (left_word (on_word s.which (s.at + 1) s) row refl refl))
 
-    refused_step : (x says : ℕ) (row : Octets) → (says ≡ 0 → ⊥) → (says ≡ 1 → ⊥) → step_of (behind {R = Said} s.at (octets (get_or (words wd) k ""))) x ≡ meant says (behind (s.at + 1) (octets (get_or (words wd) k ""))) tt
-        → step_of (left_in s row) x ≡ turn_step says (said_in s row) (left_in s row)
+    refused_step : (x : ℕ) (r : Refusal) (row : Octets) → PieceSays (octets (get_or (words wd) k "")) s.at x (Err r) → step_of (left_in s row) x ≡ turn_step (Err r) row
     unfolding goes turn_step
-    refused_step x says row p q e = later_step x says row e ∙ rw (ne_eqb says 0 p, ne_eqb says 1 q) refl
+    refused_step x r row e = later_step x (Err r) row e
 
     -- no such word, or past its end
-    pub turns_no_word : (x : ℕ) → word_count s.node < s.which → Turned s false x (plain 20 s)
-    unfolding plain write unwritten laid_at laid meant octets
+    pub turns_no_word : (x : ℕ) → word_count s.node < s.which → Turned s false x (Err Refusal.Outside)
+    unfolding said refusal_number octets
     turns_no_word x h row l f =
-        refused_step x 20 row (λ e. omega (arith, e)) (λ e. omega (arith, e))
+        refused_step x Refusal.Outside row
         (behind_past Said s.at (octets (get_or (words wd) k "")) x (let many = ap word_count here ∙ count_words wd in let none = beyond (words wd) k (omega (arith, h, many, open_word)) in omega (arith, none)))
       where
         beyond : (vs : List String) (m : ℕ) → length vs ≤ m → length (octets (get_or vs m "")) ≡ 0
@@ -545,31 +555,29 @@ module _ (s : ReaderState) (a : 36 ≤ s.node) (b : s.node < 52) (calm : is_brok
         beyond (v ∷ vs) zero q = absurd (omega (arith, q))
         beyond (v ∷ vs) (suc m) q = beyond vs m (omega (arith, q))
 
-    pub turns_past : (x : ℕ) → 116 ≤ s.at → Turned s false x (plain 20 s)
-    unfolding plain write unwritten laid_at laid meant
+    pub turns_past : (x : ℕ) → 116 ≤ s.at → Turned s false x (Err Refusal.Outside)
+    unfolding said refusal_number
     turns_past x h row l f =
-        refused_step x 20 row (λ e. omega (arith, e)) (λ e. omega (arith, e))
+        refused_step x Refusal.Outside row
         (behind_past Said s.at (octets (get_or (words wd) k "")) x (let short = short_word wd k in omega (arith, h, short)))
 
     module _ (room : s.which ≤ word_count s.node) where
-      word_says : (x says : ℕ) → Says x says → step_of (behind {R = Said} s.at (octets (get_or (words wd) k ""))) x ≡ meant says (behind (s.at + 1) (octets (get_or (words wd) k ""))) tt
-      word_says x says e =
+      word_says : (x : ℕ) (r : Answer) → Says x r → PieceSays (octets (get_or (words wd) k "")) s.at x r
+      word_says x r e =
           let many = ap word_count here ∙ count_words wd in
-          subst (λ t. step_of (behind {R = Said} s.at t) x ≡ meant says (behind (s.at + 1) t) tt)
+          subst (λ t. PieceSays t s.at x r)
           (ap (λ n. get_or texts (n + k) []) (ap first_number here ∙ first_word wd) ∙ text_word wd k (omega (arith, room, many, open_word))) e
 
-      pub turns_on : (x says : ℕ) → says ≡ 0 → Says x says → Turned s false x (plain 0 (on_word s.which (s.at + 1) s))
-      unfolding goes turn_step plain write unwritten laid_at laid
-      turns_on x says q e row l f = later_step x 0 row (subst (λ n. step_of (behind {R = Said} s.at (octets (get_or (words wd) k ""))) x ≡ meant n (behind (s.at + 1) (octets (get_or (words wd) k ""))) tt) q (word_says x says e))
+      pub turns_on : (x : ℕ) → Says x (Ok (Leaf.More tt)) → Turned s false x (Ok (plain false (on_word s.which (s.at + 1) s)))
+      unfolding goes turn_step plain write
+      turns_on x e row l f = later_step x (Ok (Leaf.More tt)) row (word_says x (Ok (Leaf.More tt)) e)
 
-      pub turns_ended : (x says : ℕ) (r : Turn) → says ≡ 1 → Says x says → Leaves s (λ o. word_goes wd o k) r → Turned s false x r
+      pub turns_ended : (x : ℕ) (r : Result Turn Refusal) → Says x (Ok Leaf.Ended) → Leaves s (λ o. word_goes wd o k) r → Turned s false x r
       unfolding goes
-      turns_ended x says r q e g row l f =
-          later_step x 1 row (subst (λ n. step_of (behind {R = Said} s.at (octets (get_or (words wd) k ""))) x ≡ meant n (behind (s.at + 1) (octets (get_or (words wd) k ""))) tt) q (word_says x says e)) ∙ g row l
+      turns_ended x r e g row l f = later_step x (Ok Leaf.Ended) row (word_says x (Ok Leaf.Ended) e) ∙ g row l
 
-      pub turns_refused : (x says : ℕ) → (says ≡ 0 → ⊥) → (says ≡ 1 → ⊥) → Says x says → Turned s false x (plain says s)
-      unfolding plain write unwritten laid_at laid
-      turns_refused x says p q e row l f = refused_step x says row p q (word_says x says e)
+      pub turns_refused : (x : ℕ) (r : Refusal) → Says x (Err r) → Turned s false x (Err r)
+      turns_refused x r e row l f = refused_step x r row (word_says x (Err r) e)
 
 unfoldable all_below : List ℕ → Type 0
 all_below [] = Unit
@@ -595,103 +603,6 @@ count_small n = all_small (2 ∷ 3 ∷ 3 ∷ 3 ∷ 2 ∷ 3 ∷ 2 ∷ 2 ∷ 2 ∷
 
 -- ------------------------------------------------------------------ as the code says them
 
-module _ (k first second third : ℕ) where
-  pub place_0 : k ≡ 0 → first ≡ by_place k first second third
-  unfolding by_place
-  place_0 e = rw e refl
-
-  pub place_1 : k ≡ 1 → second ≡ by_place k first second third
-  unfolding by_place
-  place_1 e = rw e refl
-
-  pub place_2 : (k ≡ 0 → ⊥) → (k ≡ 1 → ⊥) → third ≡ by_place k first second third
-  unfolding by_place
-  place_2 e f = rw (ne_eqb k 0 e, ne_eqb k 1 f) refl
-
-two_places : (k first second : ℕ) → by_place k first second second ≡ (if eqb k 0 then first else second)
-unfolding by_place
-two_places k first second = go (eqb k 0) (eqb k 1)
-  where
-    go : (a b : Bool) → (if a then first else if b then second else second) ≡ (if a then first else second)
-    go true b = refl
-    go false true = refl
-    go false false = refl
-
-pub flag_place : (k : ℕ) → by_place k 0 1 0 ≡ flag (eqb k 1)
-unfolding by_place flag
-flag_place zero = refl
-flag_place (suc zero) = refl
-flag_place (suc (suc k)) = rw (ne_eqb (suc (suc k)) 0 (λ e. omega (arith, e)), ne_eqb (suc (suc k)) 1 (λ e. omega (arith, e))) refl
-
-module _ (n k : ℕ) where
-  pub next_36 : n ≡ 36 → by_place k 54 55 55 ≡ word_next n k
-  unfolding word_next
-  next_36 e = two_places k 54 55 ∙ rw e refl
-
-  pub next_38 : n ≡ 38 → by_place k 39 41 42 ≡ word_next n k
-  unfolding word_next by_place
-  next_38 e = rw e refl
-
-  pub next_40 : n ≡ 40 → by_place k 41 42 42 ≡ word_next n k
-  unfolding word_next
-  next_40 e = two_places k 41 42 ∙ rw e refl
-
-  pub next_48 : n ≡ 48 → by_place k 25 29 33 ≡ word_next n k
-  unfolding word_next by_place
-  next_48 e = rw e refl
-
-  pub next_51 : n ≡ 51 → by_place k 14 65 65 ≡ word_next n k
-  unfolding word_next
-  next_51 e = two_places k 14 65 ∙ rw e refl
-
-  pub next_other : (n ≡ 36 → ⊥) → (n ≡ 38 → ⊥) → (n ≡ 40 → ⊥) → (n ≡ 48 → ⊥) → (n ≡ 51 → ⊥) → plain_next n ≡ word_next n k
-  unfolding word_next
-  next_other a b c d e = rw (ne_eqb n 36 a, ne_eqb n 38 b, ne_eqb n 40 c, ne_eqb n 48 d, ne_eqb n 51 e) refl
-
-module _ (n k : ℕ) (s : ReaderState) where
-  pub chosen_45 : n ≡ 45 → judged k s.outcome s.left s ≡ chosen_by n k s
-  unfolding chosen_by
-  chosen_45 e = rw e refl
-
-  pub chosen_46 : (v : ℕ) → v ≡ by_place k 0 1 0 → n ≡ 46 → flagged v s.spf s ≡ chosen_by n k s
-  unfolding chosen_by
-  chosen_46 v q e = ap (λ u. flagged u s.spf s) (q ∙ flag_place k) ∙ rw e refl
-
-  pub chosen_47 : (v : ℕ) → v ≡ by_place k 0 1 0 → n ≡ 47 → flagged s.dkim v s ≡ chosen_by n k s
-  unfolding chosen_by
-  chosen_47 v q e = ap (λ u. flagged s.dkim u s) (q ∙ flag_place k) ∙ rw e refl
-
-  pub chosen_49 : n ≡ 49 → judged s.disposition k s.left s ≡ chosen_by n k s
-  unfolding chosen_by
-  chosen_49 e = rw e refl
-
-  pub chosen_50 : n ≡ 50 → judged s.disposition k s.left s ≡ chosen_by n k s
-  unfolding chosen_by
-  chosen_50 e = rw e refl
-
-  pub chosen_51 : n ≡ 51 → one_record k s ≡ chosen_by n k s
-  unfolding chosen_by
-  chosen_51 e = rw e refl
-
-  pub chosen_none : (n ≡ 45 → ⊥) → (n ≡ 46 → ⊥) → (n ≡ 47 → ⊥) → (n ≡ 49 → ⊥) → (n ≡ 50 → ⊥) → (n ≡ 51 → ⊥) → s ≡ chosen_by n k s
-  unfolding chosen_by
-  chosen_none a b c d e f = rw (ne_eqb n 45 a, ne_eqb n 46 b, ne_eqb n 47 c, ne_eqb n 49 d, ne_eqb n 50 e, ne_eqb n 51 f) refl
-
-module _ (k : ℕ) (s : ReaderState) where
-  pub record_none : (k ≡ 0 → ⊥) → s ≡ one_record k s
-  unfolding one_record
-  record_none e = rw (ne_eqb k 0 e) refl
-
-  pub record_last : k ≡ 0 → s.left ≡ 0 → s ≡ one_record k s
-  unfolding one_record judged
-  record_last e f =
-      let less : s.left ≡ s.left - 1 = omega (arith, f) in
-      rw (eq-eqb k 0 e) (ap (λ v. judged s.disposition s.outcome v s) less)
-
-  pub record_more : k ≡ 0 → judged s.disposition s.outcome (s.left - 1) s ≡ one_record k s
-  unfolding one_record
-  record_more e = rw (eq-eqb k 0 e) refl
-
 module _ (n : ℕ) where
   pub single_below : n < 42 → false ≡ is_single n
   unfolding is_single between
@@ -700,8 +611,3 @@ module _ (n : ℕ) where
   pub single_above : 42 ≤ n → leb n 44 ≡ is_single n
   unfolding is_single between
   single_above h = rw (le-leb 42 n h) refl
-
-pub beyond_table : (l : Octets) (m : ℕ) → length l ≤ m → 0 ≡ get_or l m 0
-beyond_table [] m h = refl
-beyond_table (x ∷ l) zero h = absurd (omega (arith, h))
-beyond_table (x ∷ l) (suc m) h = beyond_table l m (omega (arith, h))

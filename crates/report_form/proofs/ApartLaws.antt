@@ -3,13 +3,12 @@ use mathlib.Core.Path.{◌≡◌, refl, sym, ap, ◌∙◌, subst}
 use mathlib.Core.List.{[], ◌∷◌}
 use mathlib.Core.Logic.{◌⊎◌, inl, inr}
 use mathlib.Core.Bool.{Bool, true, false, ◌&&◌}
-use mathlib.Core.Option.{Option, none as nothing, some as just, none-ne-some, some-injective}
 use Prim.Native.Nat.{ℕ, zero, suc, ◌+◌, ◌-◌, ◌*◌, ◌^◌, ◌<◌}
 use native.Mathlib.Omega.{arith}
 use lib.Dec.{eqb, leb}
 use lib.ListN.{length, take, get_or}
 use borrow.Author.Tests.{eqb-true}
-use Rattle.std.specs.Prelude.{if◌then◌else◌}
+use Rattle.std.specs.Prelude.{if◌then◌else◌, Option, None, Some}
 use Rattle.octets.specs.Octets.{Octets}
 use Rattle.octets.specs.declared.Refusal.{Refusal}
 use Rattle.parsing.specs.Reads.{Reads, done, give, next, ◌>>=◌, ◌>>◌, stuck, run, handing}
@@ -19,6 +18,7 @@ use Rattle.report_form.specs.code.ReportReading.{number_refused, digit_refused, 
 use Rattle.parsing.proofs.ReadsLaws.{run_on, run_stuck}
 use Rattle.parsing.proofs.ReadsClaimed.{open≢stuck, stuck_injective, begun_give, begun_give_back, begun_next, begun_next_back, begun_done, done_begun, live_begun}
 use Rattle.report_form.proofs.LiveLaws.{live_apart}
+use Rattle.std.proofs.lemmas.Option.{none-some, same_Some}
 
 -- the first program refuses what the second does, and perhaps some `<` more, with 20
 unfoldable pub Stricter : {R A : Type 0} → Reads R A → Reads R A → Type 0
@@ -30,7 +30,7 @@ Stricter (give r t) (give q u) = Stricter t u
 Stricter (give r t) (next g l) = ⊥
 Stricter (next f k) (done b) = ⊥
 Stricter (next f k) (give q u) = ⊥
-Stricter (next f k) (next g l) = ((x : ℕ) → (f x ≡ g x) ⊎ ((x ≡ 60) × (f x ≡ just 20))) × ((x : ℕ) → f x ≡ nothing → Stricter (k x) (l x))
+Stricter (next f k) (next g l) = ((x : ℕ) → (f x ≡ g x) ⊎ ((x ≡ 60) × (f x ≡ Some 20))) × ((x : ℕ) → f x ≡ None → Stricter (k x) (l x))
 
 stricter_refl : {R A : Type 0} (t : Reads R A) → Stricter t t
 unfolding Stricter
@@ -60,7 +60,7 @@ stricter_then t u v h = stricter_after t (λ _. u) (λ _. v) (λ _. h)
 
 -- ------------------------------------------------------------------ a number with a test at its end
 
-pub at_end : (least most : ℕ) (ends : ℕ → Bool) (value : ℕ) (some : Bool) (x : ℕ) → eqb x 60 ≡ true → number_refused least most ends value some x ≡ (if some && ends value then nothing else just 20)
+pub at_end : (least most : ℕ) (ends : ℕ → Bool) (value : ℕ) (some : Bool) (x : ℕ) → eqb x 60 ≡ true → number_refused least most ends value some x ≡ (if some && ends value then None else Some 20)
 unfolding number_refused
 at_end least most ends value some x e = rw e
 
@@ -69,15 +69,15 @@ unfolding number_refused
 not_at_end least most ends value some x e = rw e
 
 stricter_digit : (least most : ℕ) (ends : ℕ → Bool) (value : ℕ) (some : Bool) (x : ℕ)
-    → (number_refused least most ends value some x ≡ number_refused least most (λ n. true) value some x) ⊎ ((x ≡ 60) × (number_refused least most ends value some x ≡ just 20))
+    → (number_refused least most ends value some x ≡ number_refused least most (λ n. true) value some x) ⊎ ((x ≡ 60) × (number_refused least most ends value some x ≡ Some 20))
 stricter_digit least most ends value some x = go (eqb x 60) refl some (ends value) refl
   where
     go : (c : Bool) → eqb x 60 ≡ c → (d e : Bool) → ends value ≡ e
-        → (number_refused least most ends value d x ≡ number_refused least most (λ n. true) value d x) ⊎ ((x ≡ 60) × (number_refused least most ends value d x ≡ just 20))
+        → (number_refused least most ends value d x ≡ number_refused least most (λ n. true) value d x) ⊎ ((x ≡ 60) × (number_refused least most ends value d x ≡ Some 20))
     go false c d e f = inl (not_at_end least most ends value d x c ∙ sym (not_at_end least most (λ n. true) value d x c))
     go true c false e f = inl (at_end least most ends value false x c ∙ sym (at_end least most (λ n. true) value false x c))
-    go true c true true f = inl (at_end least most ends value true x c ∙ ap (λ b. if b then nothing else just 20) f ∙ sym (at_end least most (λ n. true) value true x c))
-    go true c true false f = inr (eqb-true x 60 c, at_end least most ends value true x c ∙ ap (λ b. if b then nothing else just 20) f)
+    go true c true true f = inl (at_end least most ends value true x c ∙ ap (λ b. if b then None else Some 20) f ∙ sym (at_end least most (λ n. true) value true x c))
+    go true c true false f = inr (eqb-true x 60 c, at_end least most ends value true x c ∙ ap (λ b. if b then None else Some 20) f)
 
 stricter_elim : {A : Type 0} (c : Bool) (t u v : Reads Said A) → Stricter u v → Stricter {R = Said} {A = A} (elim c as (λ _. Reads Said A) [ true ↦ t | false ↦ u ]) (elim c as (λ _. Reads Said A) [ true ↦ t | false ↦ v ])
 stricter_elim true t u v h = stricter_refl t
@@ -102,7 +102,7 @@ module _ {R A : Type 0} where
     pub before : Begun u (take p s)
     pub there : (Begun u (take (suc p) s) → ⊥) ⊎ ((get_or s p 0 ≡ 60) × (q.number ≡ 20))
 
-  refuses_later : (f g : ℕ → Option ℕ) (l : ℕ → Reads R A) (x : ℕ) (s : Octets) (q : Refusal) (p : ℕ) → g x ≡ nothing → Refuses (l x) s q p → Refuses (next g l) (x ∷ s) q (suc p)
+  refuses_later : (f g : ℕ → Option ℕ) (l : ℕ → Reads R A) (x : ℕ) (s : Octets) (q : Refusal) (p : ℕ) → g x ≡ None → Refuses (l x) s q p → Refuses (next g l) (x ∷ s) q (suc p)
   refuses_later f g l x s q p e h = record {
     inside = omega (arith, h.inside);
     before = begun_next g l x (take p s) e h.before;
@@ -135,30 +135,30 @@ module _ {R A : Type 0} where
       Later : Type 0
       Later = Stricter (k x) (m x) → Live (m x) → (run (suc at) (k x) s).reader.left ≡ stuck q → (p : ℕ) × (q.place ≡ suc at + p) × Refuses (m x) s q p
 
-      go : (o : Option ℕ) → f x ≡ o → (f x ≡ g x) ⊎ ((x ≡ 60) × (f x ≡ just 20)) → Later → (p : ℕ) × (q.place ≡ at + p) × Refuses (next g m) (x ∷ s) q p
-      go nothing i (inl j) r =
-          let taken : g x ≡ nothing = sym j ∙ i in
+      go : (o : Option ℕ) → f x ≡ o → (f x ≡ g x) ⊎ ((x ≡ 60) × (f x ≡ Some 20)) → Later → (p : ℕ) × (q.place ≡ at + p) × Refuses (next g m) (x ∷ s) q p
+      go None i (inl j) r =
+          let taken : g x ≡ None = sym j ∙ i in
           let (p, n, c) = r (h.1 x i) (l.1 x taken) (sym (ap (λ z. z.reader.left) (run_on at f k x s i)) ∙ e) in
           (suc p, omega (arith, n), refuses_later f g m x s q p taken c)
-      go nothing i (inr j) r = absurd (none-ne-some 20 (sym i ∙ j.1))
-      go (just n) i (inl j) r =
+      go None i (inr j) r = absurd (none-some 20 (sym i ∙ j.1))
+      go (Some n) i (inl j) r =
           let same = stuck_injective (sym (ap (λ z. z.reader.left) (run_stuck at f k x s n i)) ∙ e) in (
             0,
             omega (arith, ap (λ z. z.place) same),
             record {
               inside = omega arith;
               before = live_begun (next g m) l;
-              there = inl (λ b. none-ne-some n (sym (begun_next_back g m x [] b).0 ∙ sym j ∙ i));
+              there = inl (λ b. none-some n (sym (begun_next_back g m x [] b).0 ∙ sym j ∙ i));
             },
           )
-      go (just n) i (inr j) r =
+      go (Some n) i (inr j) r =
           let same = stuck_injective (sym (ap (λ z. z.reader.left) (run_stuck at f k x s n i)) ∙ e) in (
             0,
             omega (arith, ap (λ z. z.place) same),
             record {
               inside = omega arith;
               before = live_begun (next g m) l;
-              there = inr (j.0, sym (ap (λ z. z.number) same) ∙ some-injective n 20 (sym i ∙ j.1));
+              there = inr (j.0, sym (ap (λ z. z.number) same) ∙ same_Some n 20 (sym i ∙ j.1));
             },
           )
 

@@ -3,13 +3,12 @@ use mathlib.Core.Path.{◌≡◌, refl, sym, ap, ◌∙◌, subst}
 use mathlib.Core.List.{List, [], ◌∷◌, ◌++◌, append_assoc, append-nil}
 use mathlib.Core.Logic.{◌⊎◌, inl, inr}
 use mathlib.Core.Bool.{Bool, true, false, ◌&&◌, true≢false}
-use mathlib.Core.Option.{Option, none as nothing, some as just, none-ne-some, some-injective}
 use Prim.Native.Nat.{ℕ, zero, suc, ◌+◌, ◌-◌, ◌*◌, ◌^◌, ◌/◌, ◌%◌, ◌<◌, ◌≤◌}
 use native.Mathlib.Omega.{arith}
 use lib.Dec.{eqb, leb}
 use lib.ListN.{length, take, get_or}
 use borrow.Author.Tests.{eqb-true, leb-false}
-use Rattle.std.specs.Prelude.{if◌then◌else◌}
+use Rattle.std.specs.Prelude.{if◌then◌else◌, Option, None, Some}
 use Rattle.octets.specs.Octets.{Octets, octets}
 use Rattle.octets.specs.Decimal.{decimal}
 use Rattle.octets.proofs.DecimalLaws.{decimal_one, decimal_more}
@@ -25,6 +24,7 @@ use Rattle.report_form.proofs.ApartLaws.{at_end, not_at_end}
 use Rattle.report_form.proofs.WholeLaws.{exactly_whole}
 use Rattle.report_form.proofs.NumberBack.{taken_digit, number_told}
 use Rattle.report.proofs.Regrouping.{leaf, ◌·◌, whole, along, regroup, lit}
+use Rattle.std.proofs.lemmas.Option.{none-some, same_Some}
 
 -- an end below begin, just read
 pub record Below (pre : Octets) : Type 0 where
@@ -44,7 +44,7 @@ Close pre (give r t) (give q u) = Close pre t u
 Close pre (give r t) (next g l) = ⊥
 Close pre (next f k) (done b) = ⊥
 Close pre (next f k) (give q u) = ⊥
-Close pre (next f k) (next g l) = ((x : ℕ) → (f x ≡ g x) ⊎ ((x ≡ 60) × (f x ≡ just 20) × Below pre)) × ((x : ℕ) → f x ≡ nothing → Close (pre ++ (x ∷ [])) (k x) (l x))
+Close pre (next f k) (next g l) = ((x : ℕ) → (f x ≡ g x) ⊎ ((x ≡ 60) × (f x ≡ Some 20) × Below pre)) × ((x : ℕ) → f x ≡ None → Close (pre ++ (x ∷ [])) (k x) (l x))
 
 close_refl : {A : Type 0} (t : Reads Said A) (pre : Octets) → Close pre t t
 unfolding Close
@@ -86,17 +86,17 @@ module _ (front : Octets) (b : ℕ) where
   before_end = front ++ octets "<begin>" ++ decimal b ++ octets "</begin><end>"
 
   close_test : (most value : ℕ) (some : Bool) (pre : Octets) (x : ℕ) → (some ≡ true → pre ≡ before_end ++ decimal value)
-      → (number_refused 0 most (leb b) value some x ≡ number_refused 0 most (λ n. true) value some x) ⊎ ((x ≡ 60) × (number_refused 0 most (leb b) value some x ≡ just 20) × Below pre)
+      → (number_refused 0 most (leb b) value some x ≡ number_refused 0 most (λ n. true) value some x) ⊎ ((x ≡ 60) × (number_refused 0 most (leb b) value some x ≡ Some 20) × Below pre)
   close_test most value some pre x h = go (eqb x 60) refl some refl (leb b value) refl
     where
       go : (c : Bool) → eqb x 60 ≡ c → (d : Bool) → some ≡ d → (e : Bool) → leb b value ≡ e
-          → (number_refused 0 most (leb b) value some x ≡ number_refused 0 most (λ n. true) value some x) ⊎ ((x ≡ 60) × (number_refused 0 most (leb b) value some x ≡ just 20) × Below pre)
+          → (number_refused 0 most (leb b) value some x ≡ number_refused 0 most (λ n. true) value some x) ⊎ ((x ≡ 60) × (number_refused 0 most (leb b) value some x ≡ Some 20) × Below pre)
       go false c d s e f = inl (not_at_end 0 most (leb b) value some x c ∙ sym (not_at_end 0 most (λ n. true) value some x c))
-      go true c false s e f = inl (at_end 0 most (leb b) value some x c ∙ ap (λ z. if z && leb b value then nothing else just 20) s ∙ sym (ap (λ z. if z && true then nothing else just 20) s) ∙ sym (at_end 0 most (λ n. true) value some x c))
-      go true c true s true f = inl (at_end 0 most (leb b) value some x c ∙ ap (λ z. if some && z then nothing else just 20) f ∙ sym (at_end 0 most (λ n. true) value some x c))
+      go true c false s e f = inl (at_end 0 most (leb b) value some x c ∙ ap (λ z. if z && leb b value then None else Some 20) s ∙ sym (ap (λ z. if z && true then None else Some 20) s) ∙ sym (at_end 0 most (λ n. true) value some x c))
+      go true c true s true f = inl (at_end 0 most (leb b) value some x c ∙ ap (λ z. if some && z then None else Some 20) f ∙ sym (at_end 0 most (λ n. true) value some x c))
       go true c true s false f = inr (
         eqb-true x 60 c,
-        at_end 0 most (leb b) value some x c ∙ (λ j. if s j && f j then nothing else just 20),
+        at_end 0 most (leb b) value some x c ∙ (λ j. if s j && f j then None else Some 20),
         record { front = front; begin = b; end = value; written = h s; below = leb-false b value f },
       )
 
@@ -107,7 +107,7 @@ module _ (front : Octets) (b : ℕ) where
       decimal_more (value * 10 + d) (omega (arith, h)) ∙ (λ m. decimal (j m) ++ ((48 + k m) ∷ []))
 
   longer : (most value : ℕ) (some : Bool) (pre : Octets) (x : ℕ) → (some ≡ true → pre ≡ before_end ++ decimal value) → (some ≡ false → (pre ≡ before_end) × (value ≡ 0)) → eqb x 60 ≡ false
-      → number_refused 0 most (leb b) value some x ≡ nothing → pre ++ (x ∷ []) ≡ before_end ++ decimal (value * 10 + (x - 48))
+      → number_refused 0 most (leb b) value some x ≡ None → pre ++ (x ∷ []) ≡ before_end ++ decimal (value * 10 + (x - 48))
   longer most value some pre x h z e f = go some refl
     where
       t : (d : ℕ) × (x ≡ 48 + d) × (d < 10) × (some ≡ true → 0 < value) × (some ≡ false → 0 ≤ d) × (value * 10 + d ≤ most)
@@ -196,9 +196,9 @@ module _ {A : Type 0} where
       Later : Type 0
       Later = Close (pre ++ (x ∷ [])) (k x) (m x) → Live (m x) → (run (suc at) (k x) s).reader.left ≡ stuck q → (p : ℕ) × (q.place ≡ suc at + p) × Refuses (m x) (pre ++ (x ∷ [])) s p
 
-      go : (o : Option ℕ) → f x ≡ o → (f x ≡ g x) ⊎ ((x ≡ 60) × (f x ≡ just 20) × Below pre) → Later → (p : ℕ) × (q.place ≡ at + p) × Refuses (next g m) pre (x ∷ s) p
-      go nothing i (inl j) r =
-          let taken : g x ≡ nothing = sym j ∙ i in
+      go : (o : Option ℕ) → f x ≡ o → (f x ≡ g x) ⊎ ((x ≡ 60) × (f x ≡ Some 20) × Below pre) → Later → (p : ℕ) × (q.place ≡ at + p) × Refuses (next g m) pre (x ∷ s) p
+      go None i (inl j) r =
+          let taken : g x ≡ None = sym j ∙ i in
           let (p, n, c) = r (h.1 x i) (l.1 x taken) (sym (ap (λ z. z.reader.left) (run_on at f k x s i)) ∙ e) in (
             suc p,
             omega (arith, n),
@@ -211,18 +211,18 @@ module _ {A : Type 0} where
               ];
             },
           )
-      go nothing i (inr j) r = absurd (none-ne-some 20 (sym i ∙ j.1))
-      go (just n) i (inl j) r =
+      go None i (inr j) r = absurd (none-some 20 (sym i ∙ j.1))
+      go (Some n) i (inl j) r =
           let same = stuck_injective (sym (ap (λ z. z.reader.left) (run_stuck at f k x s n i)) ∙ e) in (
             0,
             omega (arith, ap (λ z. z.place) same),
             record {
               inside = omega arith;
               before = live_begun (next g m) l;
-              there = inl (λ b. none-ne-some n (sym (begun_next_back g m x [] b).0 ∙ sym j ∙ i));
+              there = inl (λ b. none-some n (sym (begun_next_back g m x [] b).0 ∙ sym j ∙ i));
             },
           )
-      go (just n) i (inr j) r =
+      go (Some n) i (inr j) r =
           let same = stuck_injective (sym (ap (λ z. z.reader.left) (run_stuck at f k x s n i)) ∙ e) in (
             0,
             omega (arith, ap (λ z. z.place) same),
@@ -266,17 +266,17 @@ module _ {A : Type 0} where
       Later = Close (pre ++ (x ∷ [])) (k x) (m x) → (run (suc at) (k x) s).reader.left ≡ stuck q
           → ((run (suc at) (m x) s).reader.left ≡ stuck q) ⊎ ((q.number ≡ 20) × (p : ℕ) × (q.place ≡ suc at + p) × (get_or s p 0 ≡ 60) × Below ((pre ++ (x ∷ [])) ++ take p s))
 
-      go : (o : Option ℕ) → f x ≡ o → (f x ≡ g x) ⊎ ((x ≡ 60) × (f x ≡ just 20) × Below pre) → Later → Same
-      go nothing i (inl j) r = on (r (h.1 x i) (sym (ap (λ z. z.reader.left) (run_on at f k x s i)) ∙ e))
+      go : (o : Option ℕ) → f x ≡ o → (f x ≡ g x) ⊎ ((x ≡ 60) × (f x ≡ Some 20) × Below pre) → Later → Same
+      go None i (inl j) r = on (r (h.1 x i) (sym (ap (λ z. z.reader.left) (run_on at f k x s i)) ∙ e))
         where
           on : ((run (suc at) (m x) s).reader.left ≡ stuck q) ⊎ ((q.number ≡ 20) × (p : ℕ) × (q.place ≡ suc at + p) × (get_or s p 0 ≡ 60) × Below ((pre ++ (x ∷ [])) ++ take p s)) → Same
           on (inl y) = inl (ap (λ z. z.reader.left) (run_on at g m x s (sym j ∙ i)) ∙ y)
           on (inr (a, p, b, c, d)) = inr (a, suc p, omega (arith, b), c, subst Below (append_assoc pre (x ∷ []) (take p s)) d)
-      go nothing i (inr j) r = absurd (none-ne-some 20 (sym i ∙ j.1))
-      go (just n) i (inl j) r = inl (ap (λ z. z.reader.left) (run_stuck at g m x s n (sym j ∙ i)) ∙ sym (ap (λ z. z.reader.left) (run_stuck at f k x s n i)) ∙ e)
-      go (just n) i (inr j) r =
+      go None i (inr j) r = absurd (none-some 20 (sym i ∙ j.1))
+      go (Some n) i (inl j) r = inl (ap (λ z. z.reader.left) (run_stuck at g m x s n (sym j ∙ i)) ∙ sym (ap (λ z. z.reader.left) (run_stuck at f k x s n i)) ∙ e)
+      go (Some n) i (inr j) r =
           let same = stuck_injective (sym (ap (λ z. z.reader.left) (run_stuck at f k x s n i)) ∙ e) in
-          inr (sym (ap (λ z. z.number) same) ∙ some-injective n 20 (sym i ∙ j.1), 0, omega (arith, ap (λ z. z.place) same), j.0, subst Below (sym (append-nil pre)) j.2)
+          inr (sym (ap (λ z. z.number) same) ∙ same_Some n 20 (sym i ∙ j.1), 0, omega (arith, ap (λ z. z.place) same), j.0, subst Below (sym (append-nil pre)) j.2)
 
 pub end_stuck : (s : Octets) (q : Refusal) → (run 0 report s).reader.left ≡ stuck q
     → ((run 0 (apart widths) s).reader.left ≡ stuck q) ⊎ ((q.number ≡ 20) × (p : ℕ) × (q.place ≡ 0 + p) × (get_or s p 0 ≡ 60) × Below ([] ++ take p s))

@@ -1,8 +1,8 @@
 -- What stands before the records: what is read whole is what Ask 9 writes.
+use Rattle.std.specs.Prelude.{Option, None, Some}
 use mathlib.Core.Path.{◌≡◌, refl, sym, ap, ◌∙◌, subst}
 use mathlib.Core.List.{List, [], ◌∷◌, ◌++◌, append_assoc, append-nil}
 use mathlib.Core.Bool.{Bool, true, false, false≢true}
-use mathlib.Core.Option.{Option, none as nothing, some as just}
 use Rattle.octets.specs.Octets.{Octets, octets}
 use Rattle.policy.specs.declared.Policy.{Policy}
 use Rattle.report.specs.Xml.{element, with_entities}
@@ -113,29 +113,29 @@ pub record Both : Type 0 where
   pub np : Option Policy
 
 unfoldable pub np_raw : Option Policy → Octets
-np_raw nothing = octets "adkim>"
-np_raw (just q) = octets "np>" ++ (policy_text q ++ octets "</np><adkim>")
+np_raw None = octets "adkim>"
+np_raw (Some q) = octets "np>" ++ (policy_text q ++ octets "</np><adkim>")
 
 unfoldable pub both_raw : Both → Octets
-both_raw b = elim b.sp [ nothing ↦ np_raw b.np | just p ↦ octets "sp>" ++ (((policy_text p ++ octets "</sp><") ++ np_raw b.np)) ]
+both_raw b = elim b.sp [ None ↦ np_raw b.np | Some p ↦ octets "sp>" ++ (((policy_text p ++ octets "</sp><") ++ np_raw b.np)) ]
 
 unfoldable pub policy_piece_sp : Option Policy → Octets
-policy_piece_sp nothing = []
-policy_piece_sp (just p) = element "sp" (policy_text p)
+policy_piece_sp None = []
+policy_piece_sp (Some p) = element "sp" (policy_text p)
 
 unfoldable pub policy_piece_np : Option Policy → Octets
-policy_piece_np nothing = []
-policy_piece_np (just p) = element "np" (policy_text p)
+policy_piece_np None = []
+policy_piece_np (Some p) = element "np" (policy_text p)
 
 pub both_is : (b : Both) → octets "<" ++ both_raw b ≡ (policy_piece_sp b.sp ++ policy_piece_np b.np) ++ octets "<adkim>"
 unfolding both_raw np_raw policy_piece_sp policy_piece_np trees_compute
 both_is b = go b.sp b.np
   where
-    go : (s n : Option Policy) → octets "<" ++ (elim s as (λ _. Octets) [ nothing ↦ np_raw n | just p ↦ octets "sp>" ++ (((policy_text p ++ octets "</sp><") ++ np_raw n)) ]) ≡ (policy_piece_sp s ++ policy_piece_np n) ++ octets "<adkim>"
-    go nothing nothing = refl
-    go nothing (just q) = regroup (lit "<" · (lit "np>" · (leaf (policy_text q) · lit "</np><adkim>"))) (el "np" (leaf (policy_text q)) · lit "<adkim>") refl
-    go (just p) nothing = regroup (lit "<" · (lit "sp>" · ((leaf (policy_text p) · lit "</sp><") · lit "adkim>"))) (el "sp" (leaf (policy_text p)) · leaf [] · lit "<adkim>") refl
-    go (just p) (just q) = regroup (lit "<" · (lit "sp>" · ((leaf (policy_text p) · lit "</sp><") · (lit "np>" · (leaf (policy_text q) · lit "</np><adkim>"))))) (el "sp" (leaf (policy_text p)) · el "np" (leaf (policy_text q)) · lit "<adkim>") refl
+    go : (s n : Option Policy) → octets "<" ++ (elim s as (λ _. Octets) [ None ↦ np_raw n | Some p ↦ octets "sp>" ++ (((policy_text p ++ octets "</sp><") ++ np_raw n)) ]) ≡ (policy_piece_sp s ++ policy_piece_np n) ++ octets "<adkim>"
+    go None None = refl
+    go None (Some q) = regroup (lit "<" · (lit "np>" · (leaf (policy_text q) · lit "</np><adkim>"))) (el "np" (leaf (policy_text q)) · lit "<adkim>") refl
+    go (Some p) None = regroup (lit "<" · (lit "sp>" · ((leaf (policy_text p) · lit "</sp><") · lit "adkim>"))) (el "sp" (leaf (policy_text p)) · leaf [] · lit "<adkim>") refl
+    go (Some p) (Some q) = regroup (lit "<" · (lit "sp>" · ((leaf (policy_text p) · lit "</sp><") · (lit "np>" · (leaf (policy_text q) · lit "</np><adkim>"))))) (el "sp" (leaf (policy_text p)) · el "np" (leaf (policy_text q)) · lit "<adkim>") refl
 
 unfoldable tells_np_then : Tells np_then
 unfolding np_then
@@ -151,8 +151,8 @@ np_word = one_word ("np>", true) (("adkim>", false) ∷ [])
 
 np_into : (n : Option Policy) → Whole {R = Said} (np_word >>= np_branch) (np_raw n) [] tt
 unfolding np_raw np_branch tells_compute tells_np_then np_text
-np_into nothing = subst (λ s. Whole {R = Said} (np_word >>= np_branch) s [] tt) (append-nil (octets "adkim>")) (whole_bind np_word np_branch (octets "adkim>") [] [] [] false tt (tells_np.into false tt) (whole_done tt))
-np_into (just q) = whole_bind np_word np_branch (octets "np>") (policy_text q ++ octets "</np><adkim>") [] [] true tt (tells_np.into true tt) (tells_np_then.into (q, tt) (tt, tt))
+np_into None = subst (λ s. Whole {R = Said} (np_word >>= np_branch) s [] tt) (append-nil (octets "adkim>")) (whole_bind np_word np_branch (octets "adkim>") [] [] [] false tt (tells_np.into false tt) (whole_done tt))
+np_into (Some q) = whole_bind np_word np_branch (octets "np>") (policy_text q ++ octets "</np><adkim>") [] [] true tt (tells_np.into true tt) (tells_np_then.into (q, tt) (tt, tt))
 
 np_told : (s : Octets) (rs : List Said) (a : Unit {0}) → Whole {R = Said} (np_word >>= np_branch) s rs a → (n : Option Policy) × (s ≡ np_raw n) × (rs ≡ [])
 unfolding np_raw np_branch tells_compute tells_np_then np_text
@@ -165,11 +165,11 @@ np_told s rs a w = go c.value c.reads_front c.reads_back
     go false f g =
         let (y, h, e, z, i) = tells_np.back c.front c.front_rows false f in
         let (ed, zd, vd) = done_whole {A = Unit {0}} tt c.back c.back_rows a g in
-        (nothing, c.joined ∙ (λ k. (e ∙ ap np_text (sym i)) k ++ ed k) ∙ append-nil (octets "adkim>"), c.joined_rows ∙ (λ k. z k ++ zd k))
+        (None, c.joined ∙ (λ k. (e ∙ ap np_text (sym i)) k ++ ed k) ∙ append-nil (octets "adkim>"), c.joined_rows ∙ (λ k. z k ++ zd k))
     go true f g =
         let (y, h, e, z, i) = tells_np.back c.front c.front_rows true f in
         let (x, gx, ex, zx, vx) = tells_np_then.back c.back c.back_rows a g in
-        (just x.0, c.joined ∙ (λ k. (e ∙ ap np_text (sym i)) k ++ ex k), c.joined_rows ∙ (λ k. z k ++ zx k))
+        (Some x.0, c.joined ∙ (λ k. (e ∙ ap np_text (sym i)) k ++ ex k), c.joined_rows ∙ (λ k. z k ++ zx k))
 
 unfoldable tag_branch : Tag → Reads Said (Unit {0})
 tag_branch sp_tag = (policy >> literal "</sp><" >> np_word) >>= np_branch
@@ -237,11 +237,11 @@ pub policies_into : (b : Both) → Whole {R = Said} policies (both_raw b) [] tt
 unfolding both_raw np_raw tag_branch tells_compute tells_np_then tag_text
 policies_into b = go b.sp b.np
   where
-    go : (s n : Option Policy) → Whole {R = Said} policies (elim s as (λ _. Octets) [ nothing ↦ np_raw n | just p ↦ octets "sp>" ++ (((policy_text p ++ octets "</sp><") ++ np_raw n)) ]) [] tt
-    go nothing nothing = whole_as _ _ (octets "adkim>" ++ []) _ tt (sym policies_program) (append-nil (octets "adkim>")) (whole_bind tag_word tag_branch (octets "adkim>") [] [] [] adkim_tag tt (tells_tag.into adkim_tag tt) (whole_done tt))
-    go nothing (just q) = whole_as _ _ (octets "np>" ++ (policy_text q ++ octets "</np><adkim>")) _ tt (sym policies_program) refl
+    go : (s n : Option Policy) → Whole {R = Said} policies (elim s as (λ _. Octets) [ None ↦ np_raw n | Some p ↦ octets "sp>" ++ (((policy_text p ++ octets "</sp><") ++ np_raw n)) ]) [] tt
+    go None None = whole_as _ _ (octets "adkim>" ++ []) _ tt (sym policies_program) (append-nil (octets "adkim>")) (whole_bind tag_word tag_branch (octets "adkim>") [] [] [] adkim_tag tt (tells_tag.into adkim_tag tt) (whole_done tt))
+    go None (Some q) = whole_as _ _ (octets "np>" ++ (policy_text q ++ octets "</np><adkim>")) _ tt (sym policies_program) refl
         (whole_bind tag_word tag_branch (octets "np>") (policy_text q ++ octets "</np><adkim>") [] [] np_tag tt (tells_tag.into np_tag tt) (tells_np_then.into (q, tt) (tt, tt)))
-    go (just p) n = whole_as _ _ (octets "sp>" ++ ((policy_text p ++ octets "</sp><") ++ np_raw n)) _ tt (sym policies_program) refl
+    go (Some p) n = whole_as _ _ (octets "sp>" ++ ((policy_text p ++ octets "</sp><") ++ np_raw n)) _ tt (sym policies_program) refl
         (whole_bind tag_word tag_branch (octets "sp>") ((policy_text p ++ octets "</sp><") ++ np_raw n) [] [] sp_tag tt (tells_tag.into sp_tag tt) (sp_into p n))
 
 pub policies_told : (s : Octets) (rs : List Said) (a : Unit {0}) → Whole {R = Said} policies s rs a → (b : Both) × Unit {0} × (s ≡ both_raw b) × (rs ≡ []) × (a ≡ tt)
@@ -255,15 +255,15 @@ policies_told s rs a w = go c.value c.reads_front c.reads_back
     go adkim_tag f g =
         let (y, h, e, z, i) = tells_tag.back c.front c.front_rows adkim_tag f in
         let (ed, zd, vd) = done_whole {A = Unit {0}} tt c.back c.back_rows a g in
-        (record { sp = nothing; np = nothing }, tt, c.joined ∙ (λ k. (e ∙ ap tag_text (sym i)) k ++ ed k) ∙ append-nil (octets "adkim>"), c.joined_rows ∙ (λ k. z k ++ zd k), refl)
+        (record { sp = None; np = None }, tt, c.joined ∙ (λ k. (e ∙ ap tag_text (sym i)) k ++ ed k) ∙ append-nil (octets "adkim>"), c.joined_rows ∙ (λ k. z k ++ zd k), refl)
     go np_tag f g =
         let (y, h, e, z, i) = tells_tag.back c.front c.front_rows np_tag f in
         let (x, gx, ex, zx, vx) = tells_np_then.back c.back c.back_rows a g in
-        (record { sp = nothing; np = just x.0 }, tt, c.joined ∙ (λ k. (e ∙ ap tag_text (sym i)) k ++ ex k), c.joined_rows ∙ (λ k. z k ++ zx k), refl)
+        (record { sp = None; np = Some x.0 }, tt, c.joined ∙ (λ k. (e ∙ ap tag_text (sym i)) k ++ ex k), c.joined_rows ∙ (λ k. z k ++ zx k), refl)
     go sp_tag f g =
         let (y, h, e, z, i) = tells_tag.back c.front c.front_rows sp_tag f in
         let (p, n, ep, zp) = sp_told c.back c.back_rows a g in
-        (record { sp = just p; np = n }, tt, c.joined ∙ (λ k. (e ∙ ap tag_text (sym i)) k ++ ep k), c.joined_rows ∙ (λ k. z k ++ zp k), refl)
+        (record { sp = Some p; np = n }, tt, c.joined ∙ (λ k. (e ∙ ap tag_text (sym i)) k ++ ep k), c.joined_rows ∙ (λ k. z k ++ zp k), refl)
 
 unfoldable pub tells_policies : Tells policies
 tells_policies = record {

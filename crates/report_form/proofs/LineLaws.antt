@@ -1,9 +1,9 @@
 -- A line of Ask 9, by the values that its record tells; and back.
+use Rattle.std.specs.Prelude.{Option, None, Some}
 use mathlib.Core.Path.{◌≡◌, refl, sym, ap, ◌∙◌, subst}
 use mathlib.Core.List.{List, [], ◌∷◌, ◌++◌, map, flatten, append-nil}
 use mathlib.Core.Logic.{◌⊎◌, inl, inr}
 use mathlib.Core.Bool.{Bool, true, false, ◌&&◌, ◌||◌, not, true≢false}
-use mathlib.Core.Option.{Option, none as nothing, some as just}
 use Prim.Native.Nat.{ℕ, suc, ◌+◌, ◌≤◌, ◌<◌}
 use native.Mathlib.Omega.{arith}
 use lib.Dec.{eqb, leb}
@@ -43,14 +43,14 @@ module _ (ws : Widths) where
   sigs_of (i ∷ is) = elim (eqb i.kind 1) [ true ↦ sig_of i ∷ sigs_of is | false ↦ sigs_of is ]
 
   unfoldable pub from_of : List Reported → Option Snd
-  from_of [] = nothing
-  from_of (i ∷ is) = elim (eqb i.kind 0) [ true ↦ just (snd_of i) | false ↦ from_of is ]
+  from_of [] = None
+  from_of (i ∷ is) = elim (eqb i.kind 0) [ true ↦ Some (snd_of i) | false ↦ from_of is ]
 
   sigs_nil : sigs_of [] ≡ []
   unfolding sigs_of
   sigs_nil = refl
 
-  from_nil : from_of [] ≡ nothing
+  from_nil : from_of [] ≡ None
   unfolding from_of
   from_nil = refl
 
@@ -63,7 +63,7 @@ module _ (ws : Widths) where
   unfolding sigs_of
   sigs_other i is e = rw (e, sigs_of)
 
-  from_spf : (i : Reported) (is : List Reported) → eqb i.kind 0 ≡ true → from_of (i ∷ is) ≡ just (snd_of i)
+  from_spf : (i : Reported) (is : List Reported) → eqb i.kind 0 ≡ true → from_of (i ∷ is) ≡ Some (snd_of i)
   unfolding from_of
   from_spf i is e = rw (e, from_of)
 
@@ -334,8 +334,8 @@ module _ (ws : Widths) where
 
   of_listed : (o : Option Snd) → GoodFrom o → (sigs_of (listed o) ≡ []) × (from_of (listed o) ≡ o)
   unfolding listed GoodFrom
-  of_listed nothing g = (sigs_nil, from_nil)
-  of_listed (just i) g = (sigs_other (spf_of i) [] (ap (λ k. eqb k 1) (spf_kind i).0) ∙ sigs_nil, from_spf (spf_of i) [] (ap (λ k. eqb k 0) (spf_kind i).0) ∙ ap just (snd_same i g))
+  of_listed None g = (sigs_nil, from_nil)
+  of_listed (Some i) g = (sigs_other (spf_of i) [] (ap (λ k. eqb k 1) (spf_kind i).0) ∙ sigs_nil, from_spf (spf_of i) [] (ap (λ k. eqb k 0) (spf_kind i).0) ∙ ap Some (snd_same i g))
 
   of_list : (is : List Sig) (o : Option Snd) → AllSigs is → GoodFrom o → (sigs_of (map dkim_of is ++ listed o) ≡ is) × (from_of (map dkim_of is ++ listed o) ≡ o)
   unfolding AllSigs
@@ -356,8 +356,8 @@ module _ (ws : Widths) where
 
   fine_from : (o : Option Snd) (index : ℕ) → GoodFrom o → index + one_if o ≤ 16 → Fine index false (listed o)
   unfolding listed Fine GoodFrom GoodSnd one_if
-  fine_from nothing index g l = tt
-  fine_from (just i) index g l = (omega (arith, l), omega (arith, (spf_kind i).1, g.1), inr ((spf_kind i).0, refl, tt))
+  fine_from None index g l = tt
+  fine_from (Some i) index g l = (omega (arith, l), omega (arith, (spf_kind i).1, g.1), inr ((spf_kind i).0, refl, tt))
 
   fine_list : (is : List Sig) (o : Option Snd) (index : ℕ) → AllSigs is → GoodFrom o → index + (length is + one_if o) ≤ 16 → Fine index false (map dkim_of is ++ listed o)
   unfolding AllSigs Fine GoodSig
@@ -374,8 +374,8 @@ module _ (ws : Widths) where
 
   good_from : (o : Option Snd) → GoodFrom o → all good_identifier (listed o) ≡ true
   unfolding listed GoodFrom all
-  good_from nothing g = refl
-  good_from (just i) g = rw (good_of_snd i g)
+  good_from None g = refl
+  good_from (Some i) g = rw (good_of_snd i g)
 
   good_list : (is : List Sig) (o : Option Snd) → AllSigs is → GoodFrom o → all good_identifier (map dkim_of is ++ listed o) ≡ true
   unfolding AllSigs all

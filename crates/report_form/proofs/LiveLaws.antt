@@ -3,14 +3,13 @@ use mathlib.Core.Path.{◌≡◌, refl, sym, ◌∙◌, subst}
 use mathlib.Core.List.{List, [], ◌∷◌, ◌++◌}
 use mathlib.Core.Logic.{◌⊎◌, inl, inr}
 use mathlib.Core.Bool.{Bool, true, false, ◌&&◌, ◌||◌, false≢true, and-false, or-false}
-use mathlib.Core.Option.{Option, none as nothing, some as just, none-ne-some}
 use Prim.Native.Nat.{ℕ, zero, suc, ◌+◌, ◌-◌, ◌*◌, ◌<◌, ◌≤◌}
 use Prim.Native.String.{String}
 use native.Mathlib.Omega.{arith}
 use lib.Dec.{eqb, ltb}
 use lib.ListN.{length, length-append}
 use borrow.Author.Tests.{le-leb, eq-eqb, eqb-true, ltb-true, ltb-false, lt-ltb}
-use Rattle.std.specs.Prelude.{if◌then◌else◌}
+use Rattle.std.specs.Prelude.{if◌then◌else◌, Option, None, Some}
 use Rattle.octets.specs.Octets.{Octets, octets, between, is_letter, is_digit, one_of, any}
 use Rattle.domain.specs.Domain.{domain_octet}
 use Rattle.reporting.specs.FileName.{alphanumeric}
@@ -20,6 +19,7 @@ use Rattle.parsing.specs.Reads.{Reads, done, give, next, ◌>>=◌, ◌>>◌, oc
 use Rattle.parsing.specs.code.Whole.{Live}
 use Rattle.report_form.specs.ReportForm.{Widths, Said}
 use Rattle.report_form.specs.code.ReportReading.{first_is as starts, rest_of, among, chosen, one_word, reading_literal as literal, policy, mode, outcome, text_octet, reading_entity as entity, text_from, text, id_from, id, digit_refused, number_refused, digits_more as number_from, reading_number as number, spelled_octet, name_allows, name_from, name, Kind, either, dotted, grouped, can_be_dotted, can_be_grouped, Address, digit_value, lower_hex as hex_digit, only_zero, goes_on_dotted, goes_on_grouped, last_number, is_last, ends_number, with_digit, next_number, source_of, digits_from, address_from, reading_address as address, passed, applied, Disposition, disposition, only, fail_or_pass, dkim_after, spf_after, signature, sender, Item, dkim_item, spf_item, no_item, item, results_from, reading_row as row, records_from, extra_or_id, PolicyTag as Tag, sp_tag, np_tag, adkim_tag, np_then, policies, report_by, apart}
+use Rattle.std.proofs.lemmas.Option.{none-some}
 
 -- ------------------------------------------------------------------ how programs are put together
 
@@ -42,9 +42,9 @@ live_where : {A : Type 0} (f : ℕ → Bool) (k : ℕ → Reads Said A) (x : ℕ
 unfolding Live octet_where
 live_where f k x e h = ((x, rw e), λ y g. h y (passes y (f y) refl g))
   where
-    passes : (y : ℕ) (c : Bool) → f y ≡ c → ◌≡◌ {A = Option ℕ} (if f y then nothing else just 20) nothing → f y ≡ true
+    passes : (y : ℕ) (c : Bool) → f y ≡ c → ◌≡◌ {A = Option ℕ} (if f y then None else Some 20) None → f y ≡ true
     passes y true i g = i
-    passes y false i g = let j : ◌≡◌ {A = Option ℕ} (just 20) nothing = rw i at g in absurd (none-ne-some 20 (sym j))
+    passes y false i g = let j : ◌≡◌ {A = Option ℕ} (Some 20) None = rw i at g in absurd (none-some 20 (sym j))
 
 live_elim : {A : Type 0} (c : Bool) (t u : Reads Said A) → (c ≡ true → Live t) → (c ≡ false → Live u) → Live {R = Said} {A = A} (elim c as (λ _. Reads Said A) [ true ↦ t | false ↦ u ])
 live_elim true t u h i = h refl
@@ -105,7 +105,7 @@ live_digits zero least most value = ((60, refl), λ y e. tt)
 live_digits (suc n) least most value = ((60, refl), λ y e. live_elim (eqb y 60) _ _ (λ f. live_done value) (λ f. live_digits n least most (value * 10 + (y - 48))))
 
 -- and one that has none can take a 1
-live_number : (least most : ℕ) → number_refused least most (λ m. true) 0 false 49 ≡ nothing → Live {R = Said} (number least most (λ m. true))
+live_number : (least most : ℕ) → number_refused least most (λ m. true) 0 false 49 ≡ None → Live {R = Said} (number least most (λ m. true))
 unfolding number number_from Live
 live_number least most e = ((49, e), λ y f. live_elim (eqb y 60) _ _ (λ g. live_done {A = ℕ} 0) (λ g. live_digits most least most (0 * 10 + (y - 48))))
 

@@ -1,8 +1,8 @@
 -- A name that is read keeps the rule of domains, and is in lower case.
+use Rattle.std.specs.Prelude.{None}
 use mathlib.Core.Path.{◌≡◌, refl, sym, ap, ◌∙◌, subst}
 use mathlib.Core.List.{List, [], ◌∷◌, ◌++◌, map, append_assoc, append-nil}
 use mathlib.Core.Bool.{Bool, true, false, ◌&&◌, ◌||◌, not, false≢true}
-use mathlib.Core.Option.{none as nothing}
 use Prim.Native.Nat.{ℕ, zero, suc, ◌+◌, ◌≤◌, ◌<◌}
 use native.Mathlib.Omega.{arith}
 use lib.Dec.{eqb, leb, ltb}
@@ -153,7 +153,7 @@ rest_low [] l r = refl
 rest_low (x ∷ s) l (dot h i r) = λ m. low_octet 46 dot_low m ∷ rest_low s 0 r m
 rest_low (x ∷ s) l (octet e f g h r) = λ m. low_octet x (spelled_parts x g).1 m ∷ rest_low s (suc l) r m
 
-no_bad : (at : ℕ) (ps : List Octets) → AllGood ps → first_bad at ps ≡ nothing
+no_bad : (at : ℕ) (ps : List Octets) → AllGood ps → first_bad at ps ≡ None
 unfolding first_bad AllGood
 no_bad at [] g = refl
 no_bad at (p ∷ ps) g = rw (g.0, first_bad) (no_bad (at + length p + 1) ps g.1)

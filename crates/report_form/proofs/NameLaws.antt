@@ -1,8 +1,8 @@
 -- A name that is read: octet by octet, its labels and its length within their limits.
+use Rattle.std.specs.Prelude.{Option, None, Some}
 use mathlib.Core.Path.{◌≡◌, refl, sym, ap, ◌∙◌, subst}
 use mathlib.Core.List.{List, [], ◌∷◌, ◌++◌, append_assoc, append-nil, cons≢nil, head-eq_of_cons-eq, tail-eq_of_cons-eq}
 use mathlib.Core.Bool.{Bool, true, false, ◌&&◌, false≢true}
-use mathlib.Core.Option.{Option, none as nothing, some as just, none-ne-some}
 use Prim.Native.Nat.{ℕ, zero, suc, ◌+◌, ◌≤◌, ◌<◌}
 use native.Mathlib.Omega.{arith}
 use native.Mathlib.Nat.{not-suc-le-zero, le_of_suc-le-suc}
@@ -17,6 +17,7 @@ use Rattle.report_form.specs.ReportForm.{Said}
 use Rattle.report_form.specs.code.ReportReading.{spelled_octet, name_allows, name_from, name, id_from, id}
 use Rattle.reporting.specs.FileName.{alphanumeric}
 use Rattle.report_form.proofs.WholeLaws.{whole_octet}
+use Rattle.std.proofs.lemmas.Option.{none-some}
 
 -- what is left of a name behind so many octets of its last label
 pub data Rest : ℕ → Octets → Type 0 where
@@ -79,14 +80,14 @@ unfoldable pub Good : ℕ → List Octets → Type 0
 Good l [] = ⊥
 Good l (p ∷ ps) = (0 < l + length p) × (l + length p ≤ 63) × (all domain_octet p ≡ true) × AllGood ps
 
-pub none_bad : (at : ℕ) (ps : List Octets) → first_bad at ps ≡ nothing → AllGood ps
+pub none_bad : (at : ℕ) (ps : List Octets) → first_bad at ps ≡ None → AllGood ps
 unfolding first_bad AllGood
 none_bad at [] e = tt
 none_bad at (p ∷ ps) e = go (good_label p) refl (none_bad (at + length p + 1) ps)
   where
-    go : (c : Bool) → good_label p ≡ c → (first_bad (at + length p + 1) ps ≡ nothing → AllGood ps) → (good_label p ≡ true) × AllGood ps
+    go : (c : Bool) → good_label p ≡ c → (first_bad (at + length p + 1) ps ≡ None → AllGood ps) → (good_label p ≡ true) × AllGood ps
     go true f h = (f, h (rw (f, first_bad) at e))
-    go false f h = absurd (none-ne-some at (sym (rw (f, first_bad) at e)))
+    go false f h = absurd (none-some at (sym (rw (f, first_bad) at e)))
 
 label_parts : (p : Octets) → good_label p ≡ true → (0 < length p) × (length p ≤ 63) × (all domain_octet p ≡ true)
 unfolding good_label made_of
@@ -187,8 +188,8 @@ unfolding is_domain domain_fault labels
 domain_parts d e = go (first_bad 0 (split 46 d)) refl
   where
     go : (o : Option ℕ) → first_bad 0 (split 46 d) ≡ o → (length d ≤ 253) × AllGood (split 46 d)
-    go (just at) f = absurd (false≢true (rw (f, is_domain, domain_fault) at e))
-    go nothing f = (short (leb (length d) 253) refl, none_bad 0 (split 46 d) f)
+    go (Some at) f = absurd (false≢true (rw (f, is_domain, domain_fault) at e))
+    go None f = (short (leb (length d) 253) refl, none_bad 0 (split 46 d) f)
       where
         short : (c : Bool) → leb (length d) 253 ≡ c → length d ≤ 253
         short true g = leb-true (length d) 253 g

@@ -2,13 +2,12 @@
 use mathlib.Core.Path.{◌≡◌, refl, sym, ap, ◌∙◌, subst}
 use mathlib.Core.List.{List, [], ◌∷◌, ◌++◌, append_assoc, append-nil}
 use mathlib.Core.Bool.{Bool, true, false, ◌&&◌, ◌||◌, not, true≢false, false≢true}
-use mathlib.Core.Option.{Option, none as nothing, some as just, none-ne-some}
 use Prim.Native.Nat.{ℕ, zero, suc, ◌+◌, ◌-◌, ◌*◌, ◌/◌, ◌%◌, ◌≤◌, ◌<◌}
 use native.Mathlib.Omega.{arith}
 use lib.Dec.{eqb, leb}
 use lib.ListN.{length, length-append}
 use borrow.Author.Tests.{leb-true, eqb-true}
-use Rattle.std.specs.Prelude.{if◌then◌else◌}
+use Rattle.std.specs.Prelude.{if◌then◌else◌, Option, None, Some}
 use Rattle.octets.specs.Octets.{Octets, is_digit, between}
 use Rattle.octets.specs.Decimal.{decimal}
 use Rattle.octets.proofs.DecimalLaws.{decimal_one, decimal_more, length_one}
@@ -19,8 +18,9 @@ use Rattle.report_form.specs.code.ReportReading.{digit_refused, number_refused, 
 use Rattle.report_form.proofs.NumberLaws.{decimal_few, whole_number}
 use Rattle.report_form.proofs.Telling.{Tells, done_whole}
 use Rattle.report_form.proofs.TextBack.{both_true}
+use Rattle.std.proofs.lemmas.Option.{none-some}
 
-next_whole : {A : Type 0} (refuses : ℕ → Option ℕ) (k : ℕ → Reads Said A) (s : Octets) (rs : List Said) (a : A) → Whole (next refuses k) s rs a → (x : ℕ) × (u : Octets) × (s ≡ x ∷ u) × (refuses x ≡ nothing) × Whole (k x) u rs a
+next_whole : {A : Type 0} (refuses : ℕ → Option ℕ) (k : ℕ → Reads Said A) (s : Octets) (rs : List Said) (a : A) → Whole (next refuses k) s rs a → (x : ℕ) × (u : Octets) × (s ≡ x ∷ u) × (refuses x ≡ None) × Whole (k x) u rs a
 unfolding Whole
 next_whole refuses k s rs a w = w
 
@@ -30,12 +30,12 @@ digit_range x g = let (a, b) = both_true (leb 48 x) (leb x 57) g in (leb-true 48
 
 module _ (least most : ℕ) (ends : ℕ → Bool) (small : least ≤ 1) where
   -- a digit that is taken
-  pub taken_digit : (value : ℕ) (some : Bool) (x : ℕ) → eqb x 60 ≡ false → number_refused least most ends value some x ≡ nothing
+  pub taken_digit : (value : ℕ) (some : Bool) (x : ℕ) → eqb x 60 ≡ false → number_refused least most ends value some x ≡ None
       → (d : ℕ) × (x ≡ 48 + d) × (d < 10) × (some ≡ true → 0 < value) × (some ≡ false → least ≤ d) × (value * 10 + d ≤ most)
   unfolding number_refused digit_refused
   taken_digit value some x e f = go (is_digit x && not (some && eqb value 0) && (some || leb least (x - 48))) refl (leb (value * 10 + (x - 48)) most) refl
     where
-      f' : ◌≡◌ {A = Option ℕ} (if is_digit x && not (some && eqb value 0) && (some || leb least (x - 48)) then if leb (value * 10 + (x - 48)) most then nothing else just 21 else just 20) nothing
+      f' : ◌≡◌ {A = Option ℕ} (if is_digit x && not (some && eqb value 0) && (some || leb least (x - 48)) then if leb (value * 10 + (x - 48)) most then None else Some 21 else Some 20) None
       f' = rw e at f
 
       positive : (c : Bool) → some ≡ c → not (some && eqb value 0) ≡ true → some ≡ true → 0 < value
@@ -52,8 +52,8 @@ module _ (least most : ℕ) (ends : ℕ → Bool) (small : least ≤ 1) where
 
       go : (b : Bool) → (is_digit x && not (some && eqb value 0) && (some || leb least (x - 48))) ≡ b → (c : Bool) → leb (value * 10 + (x - 48)) most ≡ c
           → (d : ℕ) × (x ≡ 48 + d) × (d < 10) × (some ≡ true → 0 < value) × (some ≡ false → least ≤ d) × (value * 10 + d ≤ most)
-      go false g c h = let j : ◌≡◌ {A = Option ℕ} (just 20) nothing = rw g at f' in absurd (none-ne-some 20 (sym j))
-      go true g false h = let j : ◌≡◌ {A = Option ℕ} (just 21) nothing = rw (g, h) at f' in absurd (none-ne-some 21 (sym j))
+      go false g c h = let j : ◌≡◌ {A = Option ℕ} (Some 20) None = rw g at f' in absurd (none-some 20 (sym j))
+      go true g false h = let j : ◌≡◌ {A = Option ℕ} (Some 21) None = rw (g, h) at f' in absurd (none-some 21 (sym j))
       go true g true h =
           let (r, c) = both_true (is_digit x && not (some && eqb value 0)) (some || leb least (x - 48)) g in
           let (a, b) = both_true (is_digit x) (not (some && eqb value 0)) r in
@@ -77,7 +77,7 @@ module _ (least most : ℕ) (ends : ℕ → Bool) (small : least ≤ 1) where
     pub least_before : some ≡ true → least ≤ value
     pub most_before : some ≡ true → value ≤ most
 
-  at_mark : (n value : ℕ) (some : Bool) (s u : Octets) (rs : List Said) (a x : ℕ) → Before n value some → s ≡ x ∷ u → eqb x 60 ≡ true → number_refused least most ends value some x ≡ nothing
+  at_mark : (n value : ℕ) (some : Bool) (s u : Octets) (rs : List Said) (a x : ℕ) → Before n value some → s ≡ x ∷ u → eqb x 60 ≡ true → number_refused least most ends value some x ≡ None
       → Whole {R = Said} (done value) u rs a → Counted value some s rs a
   unfolding number_refused
   at_mark n value some s u rs a x b e f g w = go some refl (ends value) refl
@@ -94,8 +94,8 @@ module _ (least most : ℕ) (ends : ℕ → Bool) (small : least ≤ 1) where
             ended = ap ends (sym k) ∙ q;
             bare = j;
           }
-      go true p false q = let j : ◌≡◌ {A = Option ℕ} (just 20) nothing = rw (f, p, q) at g in absurd (none-ne-some 20 (sym j))
-      go false p d q = let j : ◌≡◌ {A = Option ℕ} (just 20) nothing = rw (f, p) at g in absurd (none-ne-some 20 (sym j))
+      go true p false q = let j : ◌≡◌ {A = Option ℕ} (Some 20) None = rw (f, p, q) at g in absurd (none-some 20 (sym j))
+      go false p d q = let j : ◌≡◌ {A = Option ℕ} (Some 20) None = rw (f, p) at g in absurd (none-some 20 (sym j))
 
   -- a digit more
   digits_of : (value d : ℕ) → 0 < value → d < 10 → decimal (value * 10 + d) ≡ decimal value ++ ((48 + d) ∷ [])
@@ -154,7 +154,7 @@ module _ (least most : ℕ) (ends : ℕ → Bool) (small : least ≤ 1) where
   unfolding number_from
   number_back zero value some s rs a b w = go (eqb x 60) refl some refl
     where
-      cut : (x : ℕ) × (u : Octets) × (s ≡ x ∷ u) × (number_refused least most ends value some x ≡ nothing) × Whole {R = Said} (done value) u rs a
+      cut : (x : ℕ) × (u : Octets) × (s ≡ x ∷ u) × (number_refused least most ends value some x ≡ None) × Whole {R = Said} (done value) u rs a
       cut = next_whole (number_refused least most ends value some) (λ x. done value) s rs a w
 
       x : ℕ
@@ -166,7 +166,7 @@ module _ (least most : ℕ) (ends : ℕ → Bool) (small : least ≤ 1) where
       go false e false f = let h = b.room.1 f in absurd (omega (arith, h))
   number_back (suc n) value some s rs a b w = go (λ v u. number_back n v true u rs a) (eqb x 60) refl
     where
-      cut : (x : ℕ) × (u : Octets) × (s ≡ x ∷ u) × (number_refused least most ends value some x ≡ nothing)
+      cut : (x : ℕ) × (u : Octets) × (s ≡ x ∷ u) × (number_refused least most ends value some x ≡ None)
           × Whole {R = Said} (elim (eqb x 60) as (λ _. Reads Said ℕ) [ true ↦ done value | false ↦ number_from n least most ends (value * 10 + (x - 48)) true ]) u rs a
       cut = next_whole (number_refused least most ends value some) _ s rs a w
 

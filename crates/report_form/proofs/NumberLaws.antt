@@ -1,8 +1,8 @@
 -- A number that is read is one in decimal.
+use Rattle.std.specs.Prelude.{Option, None}
 use mathlib.Core.Path.{◌≡◌, refl, sym, ap, ◌∙◌, subst}
 use mathlib.Core.List.{[], ◌∷◌, ◌++◌, append_assoc}
 use mathlib.Core.Bool.{Bool, true, false, true≢false}
-use mathlib.Core.Option.{Option, none as nothing}
 use Prim.Native.Nat.{ℕ, zero, suc, ◌+◌, ◌-◌, ◌*◌, ◌/◌, ◌%◌, ◌≤◌, ◌<◌}
 use native.Mathlib.Omega.{arith}
 use lib.Dec.{ltb}
@@ -38,13 +38,13 @@ refused_at at = stands at (stuck (refusal 20 at))
 
 module _ (least most : ℕ) (ends : ℕ → Bool) (small : least ≤ 1) where
   -- a digit that is taken: the first of all, or one behind a number that is not 0
-  digit_taken : (value : ℕ) (some : Bool) (d : ℕ) → d < 10 → (some ≡ true → 0 < value) → (some ≡ false → (value ≡ 0) × (least ≤ d)) → value * 10 + d ≤ most → number_refused least most ends value some (48 + d) ≡ nothing
+  digit_taken : (value : ℕ) (some : Bool) (d : ℕ) → d < 10 → (some ≡ true → 0 < value) → (some ≡ false → (value ≡ 0) × (least ≤ d)) → value * 10 + d ≤ most → number_refused least most ends value some (48 + d) ≡ None
   unfolding number_refused digit_refused is_digit between
   digit_taken value true d h p z m = rw (ne_eqb (48 + d) 60 (λ e. absurd (omega (arith, e, h))), le-leb 48 (48 + d) (omega arith), le-leb (48 + d) 57 (omega (arith, h)), ne_eqb value 0 (λ e. absurd (omega (arith, e, p refl))), le-leb (value * 10 + (48 + d - 48)) most (omega (arith, m)))
   digit_taken value false d h p z m = rw (ne_eqb (48 + d) 60 (λ e. absurd (omega (arith, e, h))), le-leb 48 (48 + d) (omega arith), le-leb (48 + d) 57 (omega (arith, h)), le-leb least (48 + d - 48) (omega (arith, (z refl).1)), le-leb (value * 10 + (48 + d - 48)) most (omega (arith, m)))
 
   -- what holds at an octet that is taken if it holds behind it, holds before a number's digits if it does behind them
-  module _ (P : Reads Said ℕ → Octets → Type 0) (further : (refuses : ℕ → Option ℕ) (k : ℕ → Reads Said ℕ) (x : ℕ) (s : Octets) → refuses x ≡ nothing → P (k x) s → P (next refuses k) (x ∷ s)) where
+  module _ (P : Reads Said ℕ → Octets → Type 0) (further : (refuses : ℕ → Option ℕ) (k : ℕ → Reads Said ℕ) (x : ℕ) (s : Octets) → refuses x ≡ None → P (k x) s → P (next refuses k) (x ∷ s)) where
     digit_step : (n value : ℕ) (some : Bool) (d : ℕ) (rest : Octets) → d < 10 → (some ≡ true → 0 < value) → (some ≡ false → (value ≡ 0) × (least ≤ d)) → value * 10 + d ≤ most
         → P (number_from n least most ends (value * 10 + d) true) rest → P (number_from (suc n) least most ends value some) ((48 + d) ∷ rest)
     unfolding number_from

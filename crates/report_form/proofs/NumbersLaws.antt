@@ -3,13 +3,12 @@ use mathlib.Core.Path.{◌≡◌, refl, sym, ap, ◌∙◌, subst}
 use mathlib.Core.List.{List, [], ◌∷◌, ◌++◌}
 use mathlib.Core.Logic.{◌⊎◌, inl, inr}
 use mathlib.Core.Bool.{Bool, true, false, ◌&&◌, ◌||◌, not}
-use mathlib.Core.Option.{Option, none as nothing, some as just, none-ne-some, some-injective}
 use Prim.Native.Nat.{ℕ, zero, suc, ◌+◌, ◌-◌, ◌*◌}
 use Prim.Native.String.{String}
 use native.Mathlib.Omega.{arith}
 use lib.Dec.{eqb, leb}
 use lib.ListN.{length}
-use Rattle.std.specs.Prelude.{if◌then◌else◌}
+use Rattle.std.specs.Prelude.{if◌then◌else◌, Option, None, Some}
 use Rattle.octets.specs.Octets.{Octets, octets, is_digit}
 use Rattle.octets.specs.declared.Refusal.{Refusal}
 use Rattle.policy.specs.declared.Policy.{Policy}
@@ -20,12 +19,13 @@ use Rattle.report_form.specs.code.ReportReading.{first_is as starts, rest_of, am
 use Rattle.parsing.proofs.ReadsLaws.{run_on, run_stuck}
 use Rattle.parsing.proofs.ReadsClaimed.{open≢stuck, stuck_injective}
 use Rattle.report_form.proofs.ApartLaws.{Stricter}
+use Rattle.std.proofs.lemmas.Option.{none-some, same_Some}
 
 -- a program that refuses by numbers of a kind alone
 unfoldable pub Sane : (ℕ → Type 0) → {R A : Type 0} → Reads R A → Type 0
 Sane P (done a) = Unit
 Sane P (give r t) = Sane P t
-Sane P (next f k) = ((x n : ℕ) → f x ≡ just n → P n) × ((x : ℕ) → Sane P (k x))
+Sane P (next f k) = ((x n : ℕ) → f x ≡ Some n → P n) × ((x : ℕ) → Sane P (k x))
 
 module _ (P : ℕ → Type 0) (outside : P 20) where
   pub sane_bind : {A B : Type 0} (t : Reads Said A) (f : A → Reads Said B) → Sane P t → ((a : A) → Sane P (f a)) → Sane P (t >>= f)
@@ -46,9 +46,9 @@ module _ (P : ℕ → Type 0) (outside : P 20) where
   unfolding Sane octet_where
   sane_where f k h = (λ x n e. subst P (sym (twenty (f x) n e)) outside, h)
     where
-      twenty : (c : Bool) (n : ℕ) → ◌≡◌ {A = Option ℕ} (if c then nothing else just 20) (just n) → n ≡ 20
-      twenty true n e = absurd (none-ne-some n e)
-      twenty false n e = sym (some-injective 20 n e)
+      twenty : (c : Bool) (n : ℕ) → ◌≡◌ {A = Option ℕ} (if c then None else Some 20) (Some n) → n ≡ 20
+      twenty true n e = absurd (none-some n e)
+      twenty false n e = sym (same_Some 20 n e)
 
   pub sane_elim : {A : Type 0} (c : Bool) (t u : Reads Said A) → Sane P t → Sane P u → Sane P {R = Said} {A = A} (elim c as (λ _. Reads Said A) [ true ↦ t | false ↦ u ])
   sane_elim true t u h i = h
@@ -171,16 +171,16 @@ module _ (P : ℕ → Type 0) (outside : P 20) where
       go adkim_tag = sane_done tt
 
   module _ (over : P 21) (ws : Widths) where
-    digit_numbers : (least most : ℕ) (ends : ℕ → Bool) (value : ℕ) (some : Bool) (x n : ℕ) → number_refused least most ends value some x ≡ just n → P n
+    digit_numbers : (least most : ℕ) (ends : ℕ → Bool) (value : ℕ) (some : Bool) (x n : ℕ) → number_refused least most ends value some x ≡ Some n → P n
     unfolding number_refused digit_refused
     digit_numbers least most ends value some x n e = go (eqb x 60) (some && ends value) (is_digit x && not (some && eqb value 0) && (some || leb least (x - 48))) (leb (value * 10 + (x - 48)) most) e
       where
-        go : (a b c d : Bool) → ◌≡◌ {A = Option ℕ} (if a then (if b then nothing else just 20) else if c then if d then nothing else just 21 else just 20) (just n) → P n
-        go true true c d f = absurd (none-ne-some n f)
-        go true false c d f = subst P (some-injective 20 n f) outside
-        go false b true true f = absurd (none-ne-some n f)
-        go false b true false f = subst P (some-injective 21 n f) over
-        go false b false d f = subst P (some-injective 20 n f) outside
+        go : (a b c d : Bool) → ◌≡◌ {A = Option ℕ} (if a then (if b then None else Some 20) else if c then if d then None else Some 21 else Some 20) (Some n) → P n
+        go true true c d f = absurd (none-some n f)
+        go true false c d f = subst P (same_Some 20 n f) outside
+        go false b true true f = absurd (none-some n f)
+        go false b true false f = subst P (same_Some 21 n f) over
+        go false b false d f = subst P (same_Some 20 n f) outside
 
     pub sane_digits : (m least most : ℕ) (ends : ℕ → Bool) (value : ℕ) (some : Bool) → Sane P {R = Said} (number_from m least most ends value some)
     unfolding number_from Sane
@@ -236,8 +236,8 @@ module _ {R A : Type 0} where
   stuck_number (next f k) at (x ∷ s) q h e = go (f x) refl (stuck_number (k x) (suc at) s q (h.1 x))
     where
       go : (o : Option ℕ) → f x ≡ o → ((run (suc at) (k x) s).reader.left ≡ stuck q → (q.number ≡ 20) ⊎ (q.number ≡ 21)) → (q.number ≡ 20) ⊎ (q.number ≡ 21)
-      go nothing i m = m (sym (ap (λ z. z.reader.left) (run_on at f k x s i)) ∙ e)
-      go (just n) i m = subst (λ z. (z ≡ 20) ⊎ (z ≡ 21)) (ap (λ z. z.number) (stuck_injective (sym (ap (λ z. z.reader.left) (run_stuck at f k x s n i)) ∙ e))) (h.0 x n i)
+      go None i m = m (sym (ap (λ z. z.reader.left) (run_on at f k x s i)) ∙ e)
+      go (Some n) i m = subst (λ z. (z ≡ 20) ⊎ (z ≡ 21)) (ap (λ z. z.number) (stuck_injective (sym (ap (λ z. z.reader.left) (run_stuck at f k x s n i)) ∙ e))) (h.0 x n i)
 
   program_in : Reads R A → Left R A → Reads R A
   program_in d (open_at t) = t
@@ -268,9 +268,9 @@ module _ {R A : Type 0} where
   strict_open (next f k) (next g m) at [] t' h e = record { left = next g m; related = subst (λ z. Stricter z (next g m)) (open_injective e) h; still_open = refl; place = omega arith }
   strict_open (next f k) (next g m) at (x ∷ s) t' h e = go (f x) refl (h.0 x) (strict_open (k x) (m x) (suc at) s t')
     where
-      go : (o : Option ℕ) → f x ≡ o → (f x ≡ g x) ⊎ ((x ≡ 60) × (f x ≡ just 20)) → (Stricter (k x) (m x) → (run (suc at) (k x) s).reader.left ≡ open_at t' → Along (m x) (suc at) s t' (run (suc at) (k x) s).reader.taken)
+      go : (o : Option ℕ) → f x ≡ o → (f x ≡ g x) ⊎ ((x ≡ 60) × (f x ≡ Some 20)) → (Stricter (k x) (m x) → (run (suc at) (k x) s).reader.left ≡ open_at t' → Along (m x) (suc at) s t' (run (suc at) (k x) s).reader.taken)
           → Along (next g m) at (x ∷ s) t' (run at (next f k) (x ∷ s)).reader.taken
-      go nothing i (inl j) r =
+      go None i (inl j) r =
           let c = r (h.1 x i) (sym (ap (λ z. z.reader.left) (run_on at f k x s i)) ∙ e) in
           record {
             left = c.left;
@@ -278,5 +278,5 @@ module _ {R A : Type 0} where
             still_open = ap (λ z. z.reader.left) (run_on at g m x s (sym j ∙ i)) ∙ c.still_open;
             place = ap (λ z. z.reader.taken) (run_on at f k x s i) ∙ c.place ∙ omega arith;
           }
-      go nothing i (inr j) r = absurd (none-ne-some 20 (sym i ∙ j.1))
-      go (just n) i j r = absurd (open≢stuck (sym e ∙ ap (λ z. z.reader.left) (run_stuck at f k x s n i)))
+      go None i (inr j) r = absurd (none-some 20 (sym i ∙ j.1))
+      go (Some n) i j r = absurd (open≢stuck (sym e ∙ ap (λ z. z.reader.left) (run_stuck at f k x s n i)))

@@ -2,13 +2,12 @@
 use mathlib.Core.Path.{◌≡◌, refl, sym, ap, ◌∙◌, subst}
 use mathlib.Core.List.{List, [], ◌∷◌, ◌++◌, map, flatten, append_assoc}
 use mathlib.Core.Bool.{Bool, true, false, ◌&&◌, ◌||◌, not, false≢true, true≢false}
-use mathlib.Core.Option.{none as nothing, some as just}
 use Prim.Native.Nat.{ℕ, zero, suc, ◌+◌, ◌/◌, ◌%◌, ◌≤◌}
 use native.Mathlib.Omega.{arith}
 use lib.Dec.{eqb, leb}
 use lib.ListN.{length, take, drop, length-append}
 use borrow.Author.Tests.{le-leb, leb-true, ne_eqb}
-use Rattle.std.specs.Prelude.{if◌then◌else◌}
+use Rattle.std.specs.Prelude.{if◌then◌else◌, None, Some}
 use Rattle.octets.specs.Octets.{Octets, octets, is_empty, is_nothing, all, same, lower}
 use Rattle.octets.specs.Refusing.{◌>>=◌, OrRefused, ok, not_ok, refuse_if, or_refuse}
 use Rattle.octets.specs.Framing.{size_of, body_of, after_record, is_whole}
@@ -70,9 +69,9 @@ pack_after b rest =
     let four : 4 + size_of (pack b ++ rest) ≡ suc (suc (suc (suc (length b)))) = omega (arith, pack_size b rest) in
     ap (λ n. drop n (pack b ++ rest)) four ∙ drop_front b rest
 
-pack_first : (b rest : Octets) → first_body (pack b ++ rest) ≡ just b
+pack_first : (b rest : Octets) → first_body (pack b ++ rest) ≡ Some b
 unfolding first_body
-pack_first b rest = rw (pack_whole b rest) (ap just (pack_body b rest))
+pack_first b rest = rw (pack_whole b rest) (ap Some (pack_body b rest))
 
 unfoldable packs : List Octets → Octets
 packs bs = flatten (map pack bs)
@@ -81,7 +80,7 @@ packs_more : (b : Octets) (bs : List Octets) → packs (b ∷ bs) ≡ pack b ++ 
 unfolding packs flatten
 packs_more b bs = refl
 
-at_packs : (pre : List Octets) (b : Octets) (rest : List Octets) → body_at (length pre) (packs (pre ++ (b ∷ rest))) ≡ just b
+at_packs : (pre : List Octets) (b : Octets) (rest : List Octets) → body_at (length pre) (packs (pre ++ (b ∷ rest))) ≡ Some b
 unfolding body_at
 at_packs [] b rest = ap first_body (packs_more b rest) ∙ pack_first b (packs rest)
 at_packs (p ∷ pre) b rest = ap (λ l. body_at (length pre) (after_record l)) (packs_more p (pre ++ (b ∷ rest))) ∙ ap (body_at (length pre)) (pack_after p (packs (pre ++ (b ∷ rest)))) ∙ at_packs pre b rest
@@ -162,7 +161,7 @@ unfolding with_good_domain bare
 bare_given [] = refl
 bare_given (i ∷ is) = ap (λ l. with_good_domain i ∷ l) (bare_given is)
 
-no_set : (is : List Reported) (q : Refusal) → identifiers_from 0 false (map with_good_domain is) ≡ not_ok q → good_set is ≡ nothing
+no_set : (is : List Reported) (q : Refusal) → identifiers_from 0 false (map with_good_domain is) ≡ not_ok q → good_set is ≡ None
 unfolding good_set
 no_set is q f = rw (f, good_set)
 
@@ -174,7 +173,7 @@ set_passed is e = go (identifiers_from 0 false (map with_good_domain is)) refl
     go (ok l) f = (l, f)
     go (not_ok q) f = absurd (false≢true (sym (ap (λ o. not (is_nothing o)) (no_set is q f)) ∙ e))
 
-bare_good : (is : List Reported) → not (is_nothing (good_set is)) ≡ true → good_set (map bare is) ≡ just (map bare is)
+bare_good : (is : List Reported) → not (is_nothing (good_set is)) ≡ true → good_set (map bare is) ≡ Some (map bare is)
 unfolding good_set
 bare_good is e = let (l, f) = set_passed is e in rw (bare_given is, f, good_set)
 
@@ -267,22 +266,22 @@ module _ (authors sets : Octets) where
   abbrev both : Lists
   both = record { authors = authors; sets = sets }
 
-  named_one : (n : ℕ) (l : Line) → good_entry widths l ≡ true → body_at n authors ≡ just l.names.author → body_at n sets ≡ just (packs (map id_body l.names.identifiers))
-      → named_by both n n ≡ just (placed n l).names
+  named_one : (n : ℕ) (l : Line) → good_entry widths l ≡ true → body_at n authors ≡ Some l.names.author → body_at n sets ≡ Some (packs (map id_body l.names.identifiers))
+      → named_by both n n ≡ Some (placed n l).names
   unfolding named_by both_named set_of placed good_line
   named_one n l e f g =
       let (r, s, t) = entry_parts widths l e in
       let (a, b) = both_true (is_domain l.names.author) (all good_identifier l.names.identifiers) t in
       let is = l.names.identifiers in
-      let is_set : good_set (set_in (packs (map id_body is))) ≡ just (map bare is) = ap good_set (set_is (map id_body is) ∙ ids_reported is b) ∙ bare_good is s in
-      (λ j. both_named (f j) (set_of (g j))) ∙ (λ j. both_named (just l.names.author) (is_set j)) ∙ ap (λ d. just (record { author = d; identifiers = map bare is })) (undotted l.names.author a)
+      let is_set : good_set (set_in (packs (map id_body is))) ≡ Some (map bare is) = ap good_set (set_is (map id_body is) ∙ ids_reported is b) ∙ bare_good is s in
+      (λ j. both_named (f j) (set_of (g j))) ∙ (λ j. both_named (Some l.names.author) (is_set j)) ∙ ap (λ d. Some (record { author = d; identifiers = map bare is })) (undotted l.names.author a)
 
-  lines_one : (n : ℕ) (l : Line) (rows : List Row) (ls : List Line) → named_by both n n ≡ just (placed n l).names → lines both rows ≡ just ls → lines both (numbered n l.row ∷ rows) ≡ just (placed n l ∷ ls)
+  lines_one : (n : ℕ) (l : Line) (rows : List Row) (ls : List Line) → named_by both n n ≡ Some (placed n l).names → lines both rows ≡ Some ls → lines both (numbered n l.row ∷ rows) ≡ Some (placed n l ∷ ls)
   unfolding lines add_line numbered placed
   lines_one n l rows ls e f = λ j. add_line (numbered n l.row) (e j) (f j)
 
 lines_all : (pre : List Line) (ls : List Line) → all (good_entry widths) ls ≡ true
-    → lines (record { authors = packs (authors_of (pre ++ ls)); sets = packs (sets_of (pre ++ ls)) }) (rows_from (length pre) ls) ≡ just (lines_from (length pre) ls)
+    → lines (record { authors = packs (authors_of (pre ++ ls)); sets = packs (sets_of (pre ++ ls)) }) (rows_from (length pre) ls) ≡ Some (lines_from (length pre) ls)
 unfolding rows_from lines_from lines all authors_of sets_of
 lines_all pre [] e = refl
 lines_all pre (l ∷ ls) e =
@@ -291,13 +290,13 @@ lines_all pre (l ∷ ls) e =
     let sets = packs (sets_of (pre ++ (l ∷ ls))) in
     let longer : (pre ++ (l ∷ [])) ++ ls ≡ pre ++ (l ∷ ls) = append_assoc pre (l ∷ []) ls in
     let next : length (pre ++ (l ∷ [])) ≡ suc (length pre) = length-append pre (l ∷ []) ∙ omega arith in
-    let more : lines (record { authors = authors; sets = sets }) (rows_from (suc (length pre)) ls) ≡ just (lines_from (suc (length pre)) ls)
-    = subst (λ z. lines (record { authors = packs (authors_of z); sets = packs (sets_of z) }) (rows_from (suc (length pre)) ls) ≡ just (lines_from (suc (length pre)) ls)) longer
-    (subst (λ n. lines (record { authors = packs (authors_of ((pre ++ (l ∷ [])) ++ ls)); sets = packs (sets_of ((pre ++ (l ∷ [])) ++ ls)) }) (rows_from n ls) ≡ just (lines_from n ls)) next (lines_all (pre ++ (l ∷ [])) ls b)) in
+    let more : lines (record { authors = authors; sets = sets }) (rows_from (suc (length pre)) ls) ≡ Some (lines_from (suc (length pre)) ls)
+    = subst (λ z. lines (record { authors = packs (authors_of z); sets = packs (sets_of z) }) (rows_from (suc (length pre)) ls) ≡ Some (lines_from (suc (length pre)) ls)) longer
+    (subst (λ n. lines (record { authors = packs (authors_of ((pre ++ (l ∷ [])) ++ ls)); sets = packs (sets_of ((pre ++ (l ∷ [])) ++ ls)) }) (rows_from n ls) ≡ Some (lines_from n ls)) next (lines_all (pre ++ (l ∷ [])) ls b)) in
     lines_one authors sets (length pre) l (rows_from (suc (length pre)) ls) (lines_from (suc (length pre)) ls)
     (named_one authors sets (length pre) l a (found (λ x. x.names.author) pre) (found (λ x. packs (map id_body x.names.identifiers)) pre)) more
   where
-    found : (f : Line → Octets) (pre : List Line) → body_at (length pre) (packs (map f (pre ++ (l ∷ ls)))) ≡ just (f l)
+    found : (f : Line → Octets) (pre : List Line) → body_at (length pre) (packs (map f (pre ++ (l ∷ ls)))) ≡ Some (f l)
     found f pre = ap (λ n. body_at n (packs (map f (pre ++ (l ∷ ls))))) (sym (map_length f pre)) ∙ ap (λ z. body_at (length (map f pre)) (packs z)) (map_append f pre) ∙ at_packs (map f pre) (f l) (map f ls)
       where
         map_length : (f : Line → Octets) (pre : List Line) → length (map f pre) ≡ length pre
@@ -353,8 +352,8 @@ take_all (suc n) (r ∷ rs) h = ap (λ l. r ∷ l) (take_all n rs (omega (arith,
 
 -- ------------------------------------------------------------------ the report
 
-written_by : (d : Domain) (rows : List Row) (lists : Lists) (by : Reporter) (s : Settings) (ls : List Line) → is_empty rows ≡ false → counted_rows (on_list rows) ≡ rows → lines lists rows ≡ just ls
-    → good_texts by.organization by.email by.contact ≡ true → good_file d by.id by.begin by.end ≡ true → all good_line ls ≡ true → lower d ≡ d → report (record { domain = just d; rows = rows }) lists by s ≡ ok (report_text d s by ls)
+written_by : (d : Domain) (rows : List Row) (lists : Lists) (by : Reporter) (s : Settings) (ls : List Line) → is_empty rows ≡ false → counted_rows (on_list rows) ≡ rows → lines lists rows ≡ Some ls
+    → good_texts by.organization by.email by.contact ≡ true → good_file d by.id by.begin by.end ≡ true → all good_line ls ≡ true → lower d ≡ d → report (record { domain = Some d; rows = rows }) lists by s ≡ ok (report_text d s by ls)
 unfolding report ◌>>=◌ or_refuse refuse_if
 written_by d rows lists by s ls a b c e f g h = rw (b, a, c, e, f, g, h)
 
@@ -389,7 +388,7 @@ written w g h =
     let lists : Lists = record { authors = packs (authors_of w.lines); sets = packs (sets_of w.lines) } in
     let good_rows = rows_good 0 w.lines p.entries in
     let all_rows : counted_rows (take 256 rows) ≡ rows = ap counted_rows (take_all 256 rows (omega (arith, rows_length 0 w.lines, p.few))) ∙ rows_counted rows good_rows in (
-      record { domain = just w.domain; rows = rows },
+      record { domain = Some w.domain; rows = rows },
       lists,
       record {
         within = ap (all (good_row widths)) all_rows ∙ good_rows;

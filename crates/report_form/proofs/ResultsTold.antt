@@ -1,7 +1,7 @@
 -- Identifiers: what is read whole is what Ask 9 writes.
+use Rattle.std.specs.Prelude.{Option, None, Some}
 use mathlib.Core.Path.{◌≡◌, refl, sym, ap, ◌∙◌, subst}
 use mathlib.Core.List.{List, [], ◌∷◌, ◌++◌, map, flatten, append_assoc, append-nil}
-use mathlib.Core.Option.{Option, none as nothing, some as just}
 use Prim.Native.Nat.{ℕ, zero, suc, ◌+◌, ◌≤◌, ◌<◌}
 use native.Mathlib.Omega.{arith}
 use lib.ListN.{length}
@@ -97,12 +97,12 @@ pub record Results : Type 0 where
   pub from : Option Snd
 
 unfoldable pub listed : Option Snd → List Reported
-listed nothing = []
-listed (just i) = spf_of i ∷ []
+listed None = []
+listed (Some i) = spf_of i ∷ []
 
 unfoldable pub from_text : Option Snd → Octets
-from_text nothing = []
-from_text (just i) = spf_piece (spf_of i)
+from_text None = []
+from_text (Some i) = spf_piece (spf_of i)
 
 unfoldable pub results_text : Results → Octets
 results_text r = flatten (map (λ i. dkim_piece (dkim_of i)) r.signatures) ++ (from_text r.from ++ octets "</auth_results>")
@@ -115,12 +115,12 @@ AllSigs [] = Unit
 AllSigs (i ∷ is) = GoodSig i × AllSigs is
 
 unfoldable pub GoodFrom : Option Snd → Type 0
-GoodFrom nothing = Unit
-GoodFrom (just i) = GoodSnd i
+GoodFrom None = Unit
+GoodFrom (Some i) = GoodSnd i
 
 unfoldable pub one_if : Option Snd → ℕ
-one_if nothing = 0
-one_if (just i) = 1
+one_if None = 0
+one_if (Some i) = 1
 
 unfoldable pub GoodResults : ℕ → Results → Type 0
 GoodResults n r = AllSigs r.signatures × GoodFrom r.from × (length r.signatures + one_if r.from ≤ n)
@@ -217,11 +217,11 @@ text_dkim : (i : Sig) (is : List Sig) (o : Option Snd) → dkim_piece (dkim_of i
 unfolding results_text flatten
 text_dkim i is o = sym (append_assoc (dkim_piece (dkim_of i)) (flatten (map (λ k. dkim_piece (dkim_of k)) is)) (from_text o ++ octets "</auth_results>"))
 
-text_spf : (i : Snd) → (spf_piece (spf_of i) ++ octets "</auth_results>") ++ [] ≡ results_text (of [] (just i))
+text_spf : (i : Snd) → (spf_piece (spf_of i) ++ octets "</auth_results>") ++ [] ≡ results_text (of [] (Some i))
 unfolding results_text from_text flatten
 text_spf i = append-nil (spf_piece (spf_of i) ++ octets "</auth_results>")
 
-text_none : octets "</auth_results>" ≡ results_text (of [] nothing)
+text_none : octets "</auth_results>" ≡ results_text (of [] None)
 unfolding results_text from_text flatten
 text_none = refl
 
@@ -229,11 +229,11 @@ list_dkim : (so_far : List Reported) (i : Sig) (is : List Sig) (o : Option Snd) 
 unfolding results_list
 list_dkim so_far i is o = append_assoc so_far (dkim_of i ∷ []) (map dkim_of is ++ listed o)
 
-list_spf : (so_far : List Reported) (i : Snd) → so_far ++ (spf_of i ∷ []) ≡ so_far ++ results_list (of [] (just i))
+list_spf : (so_far : List Reported) (i : Snd) → so_far ++ (spf_of i ∷ []) ≡ so_far ++ results_list (of [] (Some i))
 unfolding results_list listed
 list_spf so_far i = refl
 
-list_none : (so_far : List Reported) → so_far ≡ so_far ++ results_list (of [] nothing)
+list_none : (so_far : List Reported) → so_far ≡ so_far ++ results_list (of [] None)
 unfolding results_list listed
 list_none so_far = sym (append-nil so_far)
 
@@ -243,13 +243,13 @@ whole_as t u s v a b e f g w = subst (λ z. Whole z v [] b) e (subst (λ z. Whol
 
 pub results_into : (n : ℕ) (so_far : List Reported) (is : List Sig) (o : Option Snd) → AllSigs is → GoodFrom o → length is + one_if o ≤ n → Whole {R = Said} (results_from n so_far) (results_text (of is o)) [] (so_far ++ results_list (of is o))
 unfolding AllSigs GoodFrom one_if branch item_text
-results_into zero so_far [] nothing a g l = whole_as _ _ (octets "</auth_results>") _ so_far _ (sym (results_zero so_far)) text_none (list_none so_far) (end_into so_far)
-results_into zero so_far [] (just i) a g l = absurd (omega (arith, l))
+results_into zero so_far [] None a g l = whole_as _ _ (octets "</auth_results>") _ so_far _ (sym (results_zero so_far)) text_none (list_none so_far) (end_into so_far)
+results_into zero so_far [] (Some i) a g l = absurd (omega (arith, l))
 results_into zero so_far (i ∷ is) o a g l = absurd (omega (arith, l))
-results_into (suc n) so_far [] nothing a g l =
+results_into (suc n) so_far [] None a g l =
     whole_as _ _ ((octets "<" ++ octets "/auth_results>") ++ []) _ so_far _ (sym (results_suc n so_far)) (front_end ∙ text_none) (list_none so_far)
     (whole_bind begin (branch n so_far) (octets "<" ++ octets "/auth_results>") [] [] [] no_item so_far (begin_into no_item) (whole_done so_far))
-results_into (suc n) so_far [] (just i) a g l =
+results_into (suc n) so_far [] (Some i) a g l =
     whole_as _ _ ((octets "<" ++ octets "spf>") ++ (snd_text i ++ [])) _ (so_far ++ (spf_of i ∷ [])) _ (sym (results_suc n so_far)) (front_spf i [] ∙ text_spf i) (list_spf so_far i)
     (whole_bind begin (branch n so_far) (octets "<" ++ octets "spf>") (snd_text i ++ []) [] [] spf_item (so_far ++ (spf_of i ∷ [])) (begin_into spf_item)
     (whole_bind sender (λ s. done (so_far ++ (s ∷ []))) (snd_text i) [] [] [] (spf_of i) (so_far ++ (spf_of i ∷ [])) (snd_into i g) (whole_done (so_far ++ (spf_of i ∷ [])))))
@@ -276,7 +276,7 @@ pub results_back : (n : ℕ) (so_far : List Reported) (s : Octets) (rs : List Sa
 unfolding AllSigs GoodFrom one_if branch item_text
 results_back zero so_far s rs a w =
     let (e, z, v) = end_back so_far s rs a (subst (λ t. Whole t s rs a) (results_zero so_far) w) in
-    record { signatures = []; from = nothing; good = tt; good_from = tt; few = omega arith; is = e ∙ text_none; bare = z; value = v ∙ list_none so_far }
+    record { signatures = []; from = None; good = tt; good_from = tt; few = omega arith; is = e ∙ text_none; bare = z; value = v ∙ list_none so_far }
 results_back (suc n) so_far s rs a w = go (λ l u qs. results_back n l u qs a) c.value c.reads_front c.reads_back
   where
     c : Cut begin (branch n so_far) s rs a
@@ -308,7 +308,7 @@ results_back (suc n) so_far s rs a w = go (λ l u qs. results_back n l u qs a) c
         let (ed, zd, vd) = done_whole (so_far ++ (d.value ∷ [])) d.back d.back_rows a d.reads_back in
         record {
           signatures = [];
-          from = just i;
+          from = Some i;
           good = tt;
           good_from = good_i;
           few = omega arith;
@@ -321,7 +321,7 @@ results_back (suc n) so_far s rs a w = go (λ l u qs. results_back n l u qs a) c
         let (ed, zd, vd) = done_whole so_far c.back c.back_rows a g in
         record {
           signatures = [];
-          from = nothing;
+          from = None;
           good = tt;
           good_from = tt;
           few = omega arith;

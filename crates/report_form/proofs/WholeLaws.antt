@@ -1,8 +1,8 @@
 -- Which texts programs read whole: one program after another, fixed octets, texts with entities.
+use Rattle.std.specs.Prelude.{Option, None, Some}
 use mathlib.Core.Path.{◌≡◌, refl, sym, ap, ◌∙◌, subst}
 use mathlib.Core.List.{List, [], ◌∷◌, ◌++◌, flatten, append_assoc}
 use mathlib.Core.Bool.{Bool, true, false, ◌&&◌, false≢true}
-use mathlib.Core.Option.{Option, none as nothing, some as just, none-ne-some}
 use Prim.Native.Nat.{ℕ, zero, suc, ◌≤◌}
 use native.Mathlib.Nat.{not-suc-le-zero, le_of_suc-le-suc}
 use lib.Dec.{eqb}
@@ -16,6 +16,7 @@ use Rattle.parsing.specs.code.Whole.{Whole}
 use Rattle.report_form.specs.ReportForm.{Said}
 use Rattle.report_form.specs.code.ReportReading.{first_is as starts, rest_of, among, chosen, one_word, text_octet, reading_entity as entity, text_from}
 use Rattle.parsing.proofs.ReadsClaimed.{whole_run}
+use Rattle.std.proofs.lemmas.Option.{none-some}
 
 -- ------------------------------------------------------------------ one program after another
 
@@ -81,7 +82,7 @@ octet_whole f k s rs a w = (w.0, w.1, w.2, passes (f w.0) refl, w.4)
   where
     passes : (c : Bool) → f w.0 ≡ c → f w.0 ≡ true
     passes true e = e
-    passes false e = let j : ◌≡◌ {A = Option ℕ} (just 20) nothing = rw e at w.3 in absurd (none-ne-some 20 (sym j))
+    passes false e = let j : ◌≡◌ {A = Option ℕ} (Some 20) None = rw e at w.3 in absurd (none-some 20 (sym j))
 
 -- ------------------------------------------------------------------ fixed octets
 

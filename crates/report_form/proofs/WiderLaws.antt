@@ -3,14 +3,13 @@ use mathlib.Core.Path.{◌≡◌, refl, sym, ap, ◌∙◌, subst}
 use mathlib.Core.List.{[], ◌∷◌}
 use mathlib.Core.Logic.{◌⊎◌, inl, inr}
 use mathlib.Core.Bool.{Bool, true, false, ◌&&◌, ◌||◌, not, true≢false}
-use mathlib.Core.Option.{Option, none as nothing, some as just, none-ne-some, some-injective}
 use Prim.Native.Nat.{ℕ, zero, suc, ◌+◌, ◌-◌, ◌*◌, ◌≤◌}
 use Prim.Native.String.{String}
 use native.Mathlib.Omega.{arith}
 use lib.Dec.{eqb, leb}
 use lib.ListN.{take}
 use borrow.Author.Tests.{le-leb, leb-true}
-use Rattle.std.specs.Prelude.{if◌then◌else◌}
+use Rattle.std.specs.Prelude.{if◌then◌else◌, Option, None, Some}
 use Rattle.octets.specs.Octets.{Octets, is_digit}
 use Rattle.octets.specs.declared.Refusal.{Refusal}
 use Rattle.parsing.specs.Reads.{Reads, done, give, next, ◌>>=◌, ◌>>◌, stuck, run, handing}
@@ -22,12 +21,13 @@ use Rattle.report_form.specs.code.ReportReading.{reading_literal as literal, tex
 use Rattle.report_form.proofs.TextBack.{both_true}
 use Rattle.report_form.proofs.NumberBack.{taken_digit, digit_range, Before, before_more, too_long}
 use Rattle.report_form.proofs.NumbersLaws.{Sane, sane_then, sane_done, sane_literal, sane_word, sane_text, sane_id, sane_name, sane_address_from, sane_dkim, sane_spf, sane_results, sane_extra, sane_policies}
+use Rattle.std.proofs.lemmas.Option.{none-some, same_Some}
 
 -- ------------------------------------------------------------------ one program beside another
 
 -- an octet: both say the same, and not 21; or the first says 21 and the second takes it
 unfoldable pub Beside : Option ℕ → Option ℕ → Type 0
-Beside o p = ((o ≡ p) × (o ≡ just 21 → ⊥)) ⊎ ((o ≡ just 21) × (p ≡ nothing))
+Beside o p = ((o ≡ p) × (o ≡ Some 21 → ⊥)) ⊎ ((o ≡ Some 21) × (p ≡ None))
 
 unfoldable pub Wider : {R A : Type 0} → Reads R A → Reads R A → Type 0
 Wider (done a) (done b) = a ≡ b
@@ -38,13 +38,13 @@ Wider (give r t) (give q u) = Wider t u
 Wider (give r t) (next g l) = ⊥
 Wider (next f k) (done b) = ⊥
 Wider (next f k) (give q u) = ⊥
-Wider (next f k) (next g l) = ((x : ℕ) → Beside (f x) (g x)) × ((x : ℕ) → f x ≡ nothing → Wider (k x) (l x))
+Wider (next f k) (next g l) = ((x : ℕ) → Beside (f x) (g x)) × ((x : ℕ) → f x ≡ None → Wider (k x) (l x))
 
 -- "20 text outside the form" and no other number
 abbrev pub Plain : {R A : Type 0} → Reads R A → Type 0
 Plain t = Sane (λ n. n ≡ 20) t
 
-not_over : (o : Option ℕ) → ((n : ℕ) → o ≡ just n → n ≡ 20) → o ≡ just 21 → ⊥
+not_over : (o : Option ℕ) → ((n : ℕ) → o ≡ Some n → n ≡ 20) → o ≡ Some 21 → ⊥
 not_over o h e = absurd (omega (arith, h 21 e))
 
 wider_plain : {R A : Type 0} (t : Reads R A) → Plain t → Wider t t
@@ -92,14 +92,14 @@ module _ (least most wide : ℕ) (ends : ℕ → Bool) (small : least ≤ 1) (ro
       few false e = omega (arith, z e)
 
       go : (a b c : Bool) → (is_digit x && not (some && eqb value 0) && (some || leb least (x - 48))) ≡ c → (d : Bool) → leb (value * 10 + (x - 48)) most ≡ d
-          → Beside (if a then (if b then nothing else just 20) else if c then if d then nothing else just 21 else just 20)
-          (if a then (if b then nothing else just 20) else if c then if leb (value * 10 + (x - 48)) wide then nothing else just 21 else just 20)
-      go true true c e d f = inl (refl, λ g. none-ne-some 21 g)
-      go true false c e d f = inl (refl, λ g. let h : ◌≡◌ {A = ℕ} 20 21 = some-injective 20 21 g in absurd (omega (arith, h)))
-      go false b false e d f = inl (refl, λ g. let h : ◌≡◌ {A = ℕ} 20 21 = some-injective 20 21 g in absurd (omega (arith, h)))
+          → Beside (if a then (if b then None else Some 20) else if c then if d then None else Some 21 else Some 20)
+          (if a then (if b then None else Some 20) else if c then if leb (value * 10 + (x - 48)) wide then None else Some 21 else Some 20)
+      go true true c e d f = inl (refl, λ g. none-some 21 g)
+      go true false c e d f = inl (refl, λ g. let h : ◌≡◌ {A = ℕ} 20 21 = same_Some 20 21 g in absurd (omega (arith, h)))
+      go false b false e d f = inl (refl, λ g. let h : ◌≡◌ {A = ℕ} 20 21 = same_Some 20 21 g in absurd (omega (arith, h)))
       go false b true e true f =
           let l : leb (value * 10 + (x - 48)) wide ≡ true = le-leb (value * 10 + (x - 48)) wide (omega (arith, leb-true (value * 10 + (x - 48)) most f, room)) in
-          rw l (inl (refl, λ g. none-ne-some 21 g))
+          rw l (inl (refl, λ g. none-some 21 g))
       go false b true e false f =
           let (p, q) = both_true (is_digit x && not (some && eqb value 0)) (some || leb least (x - 48)) e in
           let (i, j) = both_true (is_digit x) (not (some && eqb value 0)) p in
@@ -116,7 +116,7 @@ module _ (least most wide : ℕ) (ends : ℕ → Bool) (small : least ≤ 1) (ro
       beside v c a x = beside_digit v c x a.most_before a.nothing_yet
   wider_digits zero (suc m) value some l b = ((λ x. beside_digit value some x b.most_before b.nothing_yet), λ x e. last x e (eqb x 60) refl)
     where
-      last : (x : ℕ) → number_refused least most ends value some x ≡ nothing → (c : Bool) → eqb x 60 ≡ c
+      last : (x : ℕ) → number_refused least most ends value some x ≡ None → (c : Bool) → eqb x 60 ≡ c
           → Wider {R = Said} (done value) (elim c as (λ _. Reads Said ℕ) [ true ↦ done value | false ↦ number_from m least wide ends (value * 10 + (x - 48)) true ])
       last x e true f = refl
       last x e false f = over some refl
@@ -131,7 +131,7 @@ module _ (least most wide : ℕ) (ends : ℕ → Bool) (small : least ≤ 1) (ro
         wider_elim (eqb x 60) (done value) _ _ refl (λ f. more x e f (wider_digits n m (value * 10 + (x - 48)) true (omega (arith, l)))),
   )
     where
-      more : (x : ℕ) → number_refused least most ends value some x ≡ nothing → eqb x 60 ≡ false
+      more : (x : ℕ) → number_refused least most ends value some x ≡ None → eqb x 60 ≡ false
           → (Before least most ends small n (value * 10 + (x - 48)) true → Wider {R = Said} (number_from n least most ends (value * 10 + (x - 48)) true) (number_from m least wide ends (value * 10 + (x - 48)) true))
           → Wider {R = Said} (number_from n least most ends (value * 10 + (x - 48)) true) (number_from m least wide ends (value * 10 + (x - 48)) true)
       more x e f h =
@@ -228,20 +228,20 @@ module _ {R A : Type 0} where
       Later : Type 0
       Later = Wider (k x) (m x) → Live (m x) → Sane (λ n. (n ≡ 20) ⊎ (n ≡ 21)) (k x) → (run (suc at) (k x) s).reader.left ≡ stuck q → (p : ℕ) × (q.place ≡ suc at + p) × Which (m x) s q.number p
 
-      go : (o : Option ℕ) → f x ≡ o → ((f x ≡ g x) × (f x ≡ just 21 → ⊥)) ⊎ ((f x ≡ just 21) × (g x ≡ nothing)) → Later → (p : ℕ) × (q.place ≡ at + p) × Which (next g m) (x ∷ s) q.number p
-      go nothing i (inl j) r =
-          let taken : g x ≡ nothing = sym j.0 ∙ i in
+      go : (o : Option ℕ) → f x ≡ o → ((f x ≡ g x) × (f x ≡ Some 21 → ⊥)) ⊎ ((f x ≡ Some 21) × (g x ≡ None)) → Later → (p : ℕ) × (q.place ≡ at + p) × Which (next g m) (x ∷ s) q.number p
+      go None i (inl j) r =
+          let taken : g x ≡ None = sym j.0 ∙ i in
           let (p, o, c) = r (h.1 x i) (l.1 x taken) (n.1 x) (sym (ap (λ z. z.reader.left) (run_on at f k x s i)) ∙ e) in
           (suc p, omega (arith, o), elim c [ inl y ↦ inl (y.0, λ b. y.1 (begun_next_back g m x (take (suc p) s) b).1) | inr y ↦ inr (y.0, begun_next g m x (take (suc p) s) taken y.1) ])
-      go nothing i (inr j) r = absurd (none-ne-some 21 (sym i ∙ j.0))
-      go (just v) i j r =
+      go None i (inr j) r = absurd (none-some 21 (sym i ∙ j.0))
+      go (Some v) i j r =
           let same = stuck_injective (sym (ap (λ z. z.reader.left) (run_stuck at f k x s v i)) ∙ e) in
           (0, omega (arith, ap (λ z. z.place) same), by j (n.0 x v i))
         where
           is : v ≡ q.number
           is = ap (λ z. z.number) (stuck_injective (sym (ap (λ z. z.reader.left) (run_stuck at f k x s v i)) ∙ e))
 
-          by : ((f x ≡ g x) × (f x ≡ just 21 → ⊥)) ⊎ ((f x ≡ just 21) × (g x ≡ nothing)) → (v ≡ 20) ⊎ (v ≡ 21) → Which (next g m) (x ∷ s) q.number 0
-          by (inl y) (inl z) = inl (sym is ∙ z, λ b. none-ne-some v (sym (begun_next_back g m x [] b).0 ∙ sym y.0 ∙ i))
-          by (inl y) (inr z) = absurd (y.1 (i ∙ ap just z))
-          by (inr y) z = inr (sym is ∙ some-injective v 21 (sym i ∙ y.0), begun_next g m x [] y.1 (live_begun (m x) (l.1 x y.1)))
+          by : ((f x ≡ g x) × (f x ≡ Some 21 → ⊥)) ⊎ ((f x ≡ Some 21) × (g x ≡ None)) → (v ≡ 20) ⊎ (v ≡ 21) → Which (next g m) (x ∷ s) q.number 0
+          by (inl y) (inl z) = inl (sym is ∙ z, λ b. none-some v (sym (begun_next_back g m x [] b).0 ∙ sym y.0 ∙ i))
+          by (inl y) (inr z) = absurd (y.1 (i ∙ ap Some z))
+          by (inr y) z = inr (sym is ∙ same_Some v 21 (sym i ∙ y.0), begun_next g m x [] y.1 (live_begun (m x) (l.1 x y.1)))

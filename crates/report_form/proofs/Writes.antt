@@ -1,8 +1,8 @@
 -- What Ask 9 writes is a text of the form.
+use Rattle.std.specs.Prelude.{Option, None, Some}
 use mathlib.Core.Path.{◌≡◌, refl, sym, ap, ◌∙◌, subst}
 use mathlib.Core.List.{List, [], ◌∷◌, map}
 use mathlib.Core.Bool.{Bool, true, false, ◌&&◌, not, true≢false}
-use mathlib.Core.Option.{Option, none as nothing, some as just, none-ne-some, some-injective}
 use Prim.Native.Nat.{ℕ, zero, suc, ◌-◌, ◌^◌, ◌≤◌, ◌<◌}
 use native.Mathlib.Omega.{arith}
 use lib.Dec.{leb}
@@ -28,16 +28,17 @@ use Rattle.parsing.proofs.RefusingLaws.{ok≢not-ok, ok_injective}
 use Rattle.octets.proofs.TextLaws.{same_self}
 use Rattle.report_form.proofs.NameBack.{GoodName, name_lower}
 use Rattle.report_form.proofs.TextBack.{both_true}
+use Rattle.std.proofs.lemmas.Option.{none-some, same_Some}
 
 bind_ok : {A B : Type 0} (r : OrRefused A) (f : A → OrRefused B) (b : B) → (r >>= f) ≡ ok b → (a : A) × (r ≡ ok a) × (f a ≡ ok b)
 unfolding ◌>>=◌
 bind_ok (ok a) f b e = (a, refl, e)
 bind_ok (not_ok q) f b e = absurd (ok≢not-ok (sym e))
 
-or_ok : {A : Type 0} (o : Option A) (q : Refusal) (a : A) → or_refuse o q ≡ ok a → o ≡ just a
+or_ok : {A : Type 0} (o : Option A) (q : Refusal) (a : A) → or_refuse o q ≡ ok a → o ≡ Some a
 unfolding or_refuse
-or_ok nothing q a e = absurd (ok≢not-ok (sym e))
-or_ok (just b) q a e = ap just (ok_injective e)
+or_ok None q a e = absurd (ok≢not-ok (sym e))
+or_ok (Some b) q a e = ap Some (ok_injective e)
 
 if_ok : (b : Bool) (q : Refusal) (a : Unit {0}) → refuse_if b q ≡ ok a → b ≡ false
 unfolding refuse_if
@@ -50,29 +51,29 @@ not_off false e = absurd (true≢false e)
 
 -- ------------------------------------------------------------------ sets
 
-set_kept : (is js : List Reported) → good_set is ≡ just js → (is ≡ js) × (not (is_nothing (good_set js)) ≡ true)
+set_kept : (is js : List Reported) → good_set is ≡ Some js → (is ≡ js) × (not (is_nothing (good_set js)) ≡ true)
 unfolding good_set is_nothing
 set_kept is js e = go (identifiers_from 0 false (map with_good_domain is)) refl
   where
     go : (r : OrRefused (List Identifier)) → identifiers_from 0 false (map with_good_domain is) ≡ r → (is ≡ js) × (not (is_nothing (good_set js)) ≡ true)
     go (ok x) f =
-        let g : is ≡ js = some-injective is js (rw (f, good_set) at e) in
-        (g, subst (λ z. not (is_nothing (good_set z)) ≡ true) g (ap (λ z. not (is_nothing z)) (e ∙ ap just (sym g))))
-    go (not_ok q) f = absurd (none-ne-some js (rw (f, good_set) at e))
+        let g : is ≡ js = same_Some is js (rw (f, good_set) at e) in
+        (g, subst (λ z. not (is_nothing (good_set z)) ≡ true) g (ap (λ z. not (is_nothing z)) (e ∙ ap Some (sym g))))
+    go (not_ok q) f = absurd (none-some js (rw (f, good_set) at e))
 
-of_kept : (o : Option Octets) (js : List Reported) → set_of o ≡ just js → not (is_nothing (good_set js)) ≡ true
+of_kept : (o : Option Octets) (js : List Reported) → set_of o ≡ Some js → not (is_nothing (good_set js)) ≡ true
 unfolding set_of
-of_kept nothing js e = absurd (none-ne-some js e)
-of_kept (just b) js e = (set_kept (set_in b) js e).1
+of_kept None js e = absurd (none-some js e)
+of_kept (Some b) js e = (set_kept (set_in b) js e).1
 
-named_kept : (l : Lists) (a s : ℕ) (n : Named) → named_by l a s ≡ just n → not (is_nothing (good_set n.identifiers)) ≡ true
+named_kept : (l : Lists) (a s : ℕ) (n : Named) → named_by l a s ≡ Some n → not (is_nothing (good_set n.identifiers)) ≡ true
 unfolding named_by both_named
 named_kept l a s n e = go (body_at a l.authors) (set_of (body_at s l.sets)) refl e
   where
-    go : (d : Option Domain) (o : Option (List Reported)) → set_of (body_at s l.sets) ≡ o → both_named d o ≡ just n → not (is_nothing (good_set n.identifiers)) ≡ true
-    go nothing o p q = absurd (none-ne-some n q)
-    go (just d) nothing p q = absurd (none-ne-some n q)
-    go (just d) (just is) p q = subst (λ z. not (is_nothing (good_set z.identifiers)) ≡ true) (some-injective _ n q) (of_kept (body_at s l.sets) is p)
+    go : (d : Option Domain) (o : Option (List Reported)) → set_of (body_at s l.sets) ≡ o → both_named d o ≡ Some n → not (is_nothing (good_set n.identifiers)) ≡ true
+    go None o p q = absurd (none-some n q)
+    go (Some d) None p q = absurd (none-some n q)
+    go (Some d) (Some is) p q = subst (λ z. not (is_nothing (good_set z.identifiers)) ≡ true) (same_Some _ n q) (of_kept (body_at s l.sets) is p)
 
 -- ------------------------------------------------------------------ lines
 
@@ -84,18 +85,18 @@ both_entries : (x : Line) (ls : List Line) → (good_entry widths) x ≡ true �
 unfolding all
 both_entries x ls a b = rw (a, b)
 
-lines_kept : (l : Lists) (rows : List Row) (ls : List Line) → lines l rows ≡ just ls → all (good_row widths) rows ≡ true → all good_line ls ≡ true → (length ls ≡ length rows) × (all (good_entry widths) ls ≡ true)
+lines_kept : (l : Lists) (rows : List Row) (ls : List Line) → lines l rows ≡ Some ls → all (good_row widths) rows ≡ true → all good_line ls ≡ true → (length ls ≡ length rows) × (all (good_entry widths) ls ≡ true)
 unfolding lines all add_line
-lines_kept l [] ls e g h = subst (λ z. (length z ≡ 0) × (all (good_entry widths) z ≡ true)) (some-injective [] ls e) (refl, refl)
+lines_kept l [] ls e g h = subst (λ z. (length z ≡ 0) × (all (good_entry widths) z ≡ true)) (same_Some [] ls e) (refl, refl)
 lines_kept l (r ∷ rows) ls e g h = go (named_by l r.seen.author r.seen.set) refl (lines l rows) refl (λ m. lines_kept l rows m)
   where
     go : (o : Option Named) → named_by l r.seen.author r.seen.set ≡ o → (q : Option (List Line)) → lines l rows ≡ q
-        → ((m : List Line) → lines l rows ≡ just m → all (good_row widths) rows ≡ true → all good_line m ≡ true → (length m ≡ length rows) × (all (good_entry widths) m ≡ true)) → (length ls ≡ suc (length rows)) × (all (good_entry widths) ls ≡ true)
-    go nothing a q b more = absurd (none-ne-some ls (ap (λ z. add_line r z (lines l rows)) (sym a) ∙ e))
-    go (just n) a nothing b more = absurd (none-ne-some ls ((λ j. add_line r (sym a j) (sym b j)) ∙ e))
-    go (just n) a (just m) b more =
+        → ((m : List Line) → lines l rows ≡ Some m → all (good_row widths) rows ≡ true → all good_line m ≡ true → (length m ≡ length rows) × (all (good_entry widths) m ≡ true)) → (length ls ≡ suc (length rows)) × (all (good_entry widths) ls ≡ true)
+    go None a q b more = absurd (none-some ls (ap (λ z. add_line r z (lines l rows)) (sym a) ∙ e))
+    go (Some n) a None b more = absurd (none-some ls ((λ j. add_line r (sym a j) (sym b j)) ∙ e))
+    go (Some n) a (Some m) b more =
         let first : Line = record { row = r; names = n } in
-        let is : first ∷ m ≡ ls = some-injective (first ∷ m) ls ((λ j. add_line r (sym a j) (sym b j)) ∙ e) in
+        let is : first ∷ m ≡ ls = same_Some (first ∷ m) ls ((λ j. add_line r (sym a j) (sym b j)) ∙ e) in
         let (x, y) = both_true (good_line first) (all good_line m) (subst (λ z. all good_line z ≡ true) (sym is) h) in
         let (u, v) = both_true ((good_row widths) r) (all (good_row widths) rows) g in
         let (c, d) = more m b v y in
@@ -135,7 +136,7 @@ all_good w a b = rw (a, b)
 
 -- what Ask 9 writes, of a list as clearing and entering leave it and numbers within their types, is the text of a good writing
 pub writes_form : (l : Listing) (lists : Lists) (by : Reporter) (s : Settings) (t : Octets) → Kept l by → report l lists by s ≡ ok t
-    → (w : Writing) × (good widths w ≡ true) × (w.reporter.begin ≤ w.reporter.end) × (text_of w ≡ t) × (lines lists (counted_rows (on_list l.rows)) ≡ just w.lines)
+    → (w : Writing) × (good widths w ≡ true) × (w.reporter.begin ≤ w.reporter.end) × (text_of w ≡ t) × (lines lists (counted_rows (on_list l.rows)) ≡ Some w.lines)
 unfolding report text_of good_file on_list GoodName
 writes_form l lists by s t k e =
     let (d, e1, f1) = bind_ok _ _ t e in
@@ -144,7 +145,7 @@ writes_form l lists by s t k e =
     let (u4, e4, f4) = bind_ok _ _ t f3 in
     let (u5, e5, f5) = bind_ok _ _ t f4 in
     let rows = counted_rows (take 256 l.rows) in
-    let named : lines lists rows ≡ just ls = or_ok (lines lists rows) (refusal 28 0) ls e3 in
+    let named : lines lists rows ≡ Some ls = or_ok (lines lists rows) (refusal 28 0) ls e3 in
     let some : is_empty rows ≡ false = if_ok (is_empty rows) (refusal 18 0) u2 e2 in
     let texts : good_texts by.organization by.email by.contact ≡ true = not_off (good_texts by.organization by.email by.contact) (if_ok (not (good_texts by.organization by.email by.contact)) (refusal 19 0) u4 e4) in
     let last = not_off (is_domain d && good_id by.id && leb by.begin by.end && all good_line ls) (if_ok (not (is_domain d && good_id by.id && leb by.begin by.end && all good_line ls)) (refusal 11 0) u5 e5) in
@@ -164,7 +165,7 @@ writes_form l lists by s t k e =
 
 -- so "reading a written report gives the rows written, in order"
 pub reads_written : (l : Listing) (lists : Lists) (by : Reporter) (s : Settings) (t : Octets) → Kept l by → report l lists by s ≡ ok t
-    → (ls : List Line) × (lines lists (counted_rows (on_list l.rows)) ≡ just ls) × (read_report t ≡ (map said ls, ok tt))
+    → (ls : List Line) × (lines lists (counted_rows (on_list l.rows)) ≡ Some ls) × (read_report t ≡ (map said ls, ok tt))
 reads_written l lists by s t k e =
     let (w, g, o, is, named) = writes_form l lists by s t k e in
     (w.lines, named, ap read_report (sym is) ∙ reads_back w g o)

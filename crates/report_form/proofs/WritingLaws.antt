@@ -2,13 +2,12 @@
 use mathlib.Core.Path.{◌≡◌, refl, ap, ◌∙◌}
 use mathlib.Core.List.{List, [], ◌∷◌, ◌++◌, map, flatten}
 use mathlib.Core.Bool.{Bool, true, false, ◌&&◌, ◌||◌, not, false≢true}
-use mathlib.Core.Option.{Option, none as nothing, some as just}
 use Prim.Native.Nat.{ℕ, suc, ◌≤◌}
 use native.Mathlib.Omega.{arith}
 use lib.Dec.{eqb, leb}
 use lib.ListN.{length}
 use borrow.Author.Tests.{leb-true, le-leb}
-use Rattle.std.specs.Prelude.{if◌then◌else◌}
+use Rattle.std.specs.Prelude.{if◌then◌else◌, Option, None, Some}
 use Rattle.octets.specs.Octets.{Octets, octets, is_empty, all, same, between, lower}
 use Rattle.octets.proofs.TextLaws.{same_true, same_self}
 use Rattle.octets.specs.Decimal.{decimal}
@@ -43,9 +42,9 @@ module _ (ws : Widths) where
   row_policy (Setting.Set p) = p
 
   unfoldable pub policy_if : Setting → Option Policy
-  policy_if Setting.Absent = nothing
-  policy_if Setting.Invalid = nothing
-  policy_if (Setting.Set p) = just p
+  policy_if Setting.Absent = None
+  policy_if Setting.Invalid = None
+  policy_if (Setting.Set p) = Some p
 
   p_word : (s : Setting) → is_set s ≡ true → setting_value s ≡ policy_text (row_policy s)
   unfolding is_set row_policy
@@ -249,8 +248,8 @@ module _ (ws : Widths) where
   -- ------------------------------------------------------------------ and back
 
   unfoldable pub setting_of : Option Policy → Setting
-  setting_of nothing = Setting.Absent
-  setting_of (just p) = Setting.Set p
+  setting_of None = Setting.Absent
+  setting_of (Some p) = Setting.Set p
 
   unfoldable pub writing_of : (Head ws) → List (Told ws) → Writing
   writing_of h xs = record {
@@ -270,13 +269,13 @@ module _ (ws : Widths) where
 
   setting_kept : (o : Option Policy) → (is_absent (setting_of o) || is_set (setting_of o)) ≡ true
   unfolding setting_of is_absent is_set
-  setting_kept nothing = refl
-  setting_kept (just p) = refl
+  setting_kept None = refl
+  setting_kept (Some p) = refl
 
   setting_again : (o : Option Policy) → policy_if (setting_of o) ≡ o
   unfolding setting_of policy_if
-  setting_again nothing = refl
-  setting_again (just p) = refl
+  setting_again None = refl
+  setting_again (Some p) = refl
 
   usable_again : (s : Settings) → is_set s.p ≡ true → (is_absent s.sp || is_set s.sp) ≡ true → (is_absent s.np || is_set s.np) ≡ true → published s ≡ s
   unfolding published usable

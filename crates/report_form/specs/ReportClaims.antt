@@ -1,6 +1,5 @@
 -- What is claimed of reading an aggregate report (document 02, Ask 10), by Ask 9's text alone.
-use Rattle.std.specs.Prelude.{◌≡◌, List, [], ◌∷◌, ◌++◌, map, ◌⊎◌, true, false, ℕ, suc, ◌+◌, ◌-◌, ◌≤◌, ◌<◌, leb, length, take, get_or, if◌then◌else◌}
-use Rattle.std.proofs.Math.Option.{some as just}
+use Rattle.std.specs.Prelude.{◌≡◌, List, [], ◌∷◌, ◌++◌, map, ◌⊎◌, true, false, ℕ, suc, ◌+◌, ◌-◌, ◌≤◌, ◌<◌, leb, length, take, get_or, if◌then◌else◌, Some}
 use Rattle.octets.specs.Octets.{Octets, octets, all}
 use Rattle.octets.specs.Decimal.{decimal}
 use Rattle.octets.specs.Refusing.{ok, not_ok, refusal}
@@ -82,13 +81,13 @@ pub record Kept (l : Listing) (by : Reporter) : Type 0 where
 pub record WritesClaims : Type 0 where
   -- what it writes is of the form, of the rows with a count and what their numbers name
   pub in_form : (l : Listing) (lists : Lists) (by : Reporter) (s : Settings) (t : Octets) → Kept l by → report l lists by s ≡ ok t
-      → (w : Writing) × (good widths w ≡ true) × (w.reporter.begin ≤ w.reporter.end) × (text_of w ≡ t) × (lines lists (counted_rows (on_list l.rows)) ≡ just w.lines)
+      → (w : Writing) × (good widths w ≡ true) × (w.reporter.begin ≤ w.reporter.end) × (text_of w ≡ t) × (lines lists (counted_rows (on_list l.rows)) ≡ Some w.lines)
   -- and every text of the form, its end not below its begin, is written from some rows and lists
   pub all_of_it : (w : Writing) → good widths w ≡ true → w.reporter.begin ≤ w.reporter.end
       → (l : Listing) × (lists : Lists) × Kept l w.reporter × (report l lists w.reporter w.settings ≡ ok (text_of w))
   -- "Reading a written report gives the rows written, in order"
   pub reads_written : (l : Listing) (lists : Lists) (by : Reporter) (s : Settings) (t : Octets) → Kept l by → report l lists by s ≡ ok t
-      → (ls : List Line) × (lines lists (counted_rows (on_list l.rows)) ≡ just ls) × (read_report t ≡ (map said ls, ok tt))
+      → (ls : List Line) × (lines lists (counted_rows (on_list l.rows)) ≡ Some ls) × (read_report t ≡ (map said ls, ok tt))
 
 -- "in parts cut anywhere": "The rows, the refusal and its place are those of the uncut text"; "after a refusal every later part gets the same one"
 abbrev pub ReportParts : Type 0

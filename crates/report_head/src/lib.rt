@@ -1,31 +1,20 @@
 // What stands before the records of an aggregate report: the elements `report_metadata` and `policy_published`.
 #![tactic(auto)]
 
-ghost use Rattle.std.specs.Prelude.{◌≡◌};
-ghost use Rattle.octets.specs.Octets.{lower};
+ghost use Rattle.std.specs.Prelude.{◌≡◌, [], ◌++◌, if◌then◌else◌};
+ghost use Rattle.octets.specs.Octets.{is_empty, lower};
 ghost use Rattle.octets_pieces.specs.code.Putting.{Puts};
 ghost use Rattle.report.specs.Xml.{optional_element, with_entities};
-ghost use Rattle.report.specs.Report.{metadata, published, policy_published};
-ghost use Rattle.report_head.specs.code.Words.{setting_piece, tag_piece, mode_piece, testing_piece, published_pieces};
+ghost use Rattle.publishing.specs.Publishing.{setting_value};
+ghost use Rattle.report.specs.Report.{metadata, published, published_mode, published_testing, policy_published};
 
 use policy::{Mode, Policy, Setting, Settings};
-
-// The words and tags of `policy_published` one after the other, and where each begins.
-const WORDS: [u8; 124] =
-    *b"nonequarantinerejectrsny</domain><p></p><sp></sp><np></np><adkim></adkim><aspf></aspf><testing></testing></policy_published>";
-
-const BEGINS: [u16; 18] = [
-    0, 4, 14, 20, 21, 22, 23, 24, 36, 40, 44, 49, 53, 58, 65, 79, 95, 124,
-];
-
-// The number of no word.
-const NO_WORD: u8 = 255;
 
 // The element `extra_contact_info`, where there is one.
 fn put_contact(contact: &[u8], at: usize, out: &mut [u8]) -> usize
     ensures { Puts (optional_element "extra_contact_info" (with_entities contact.now)) at out.old result out.new }
 {
-    if contact.len() == 0 {
+    if contact.is_empty() {
         return at;
     }
     let begin = octets_pieces::put(b"<extra_contact_info>", at, out);
@@ -33,11 +22,11 @@ fn put_contact(contact: &[u8], at: usize, out: &mut [u8]) -> usize
 }
 
 // The element `report_metadata`.
-pub fn put_metadata<'a>(
-    organization: &'a [u8],
-    email: &'a [u8],
-    contact: &'a [u8],
-    id: &'a [u8],
+pub fn put_metadata(
+    organization: &[u8],
+    email: &[u8],
+    contact: &[u8],
+    id: &[u8],
     begin: u64,
     end: u64,
     at: usize,
@@ -55,94 +44,81 @@ pub fn put_metadata<'a>(
     octets_pieces::put_decimal_then(end, b"</end></date_range></report_metadata>", last, out)
 }
 
-// The number of the word of p, sp or np, by whether the record is usable.
-fn setting_piece(usable: bool, s: Setting) -> u8
-    ensures { result ≡ setting_piece usable s }
+// The settings as they are shown: where the record is not usable, all three policies are none.
+fn published(s: Settings) -> Settings
+    ensures { result ≡ published s }
 {
-    if !usable {
-        return 0;
+    if force_policies::is_usable(s) {
+        s
+    } else {
+        let none = Setting::Set(Policy::None);
+        Settings {
+            p: none,
+            sp: none,
+            np: none,
+            ..s
+        }
     }
+}
+
+// The word of p, sp or np; empty where there is none.
+fn setting_word(s: Setting) -> &'static [u8]
+    ensures { result.now ≡ setting_value s }
+{
     match s {
-        Setting::Set(p) => match p {
-            Policy::None => 0,
-            Policy::Quarantine => 1,
-            Policy::Reject => 2,
-        },
-        Setting::Absent => NO_WORD,
-        Setting::Invalid => NO_WORD,
+        Setting::Set(Policy::None) => b"none",
+        Setting::Set(Policy::Quarantine) => b"quarantine",
+        Setting::Set(Policy::Reject) => b"reject",
+        Setting::Absent | Setting::Invalid => b"",
     }
 }
 
-// The number of a tag beside a word that may be none.
-fn tag_piece(word: u8, tag: u8) -> u8
-    ensures { result ≡ tag_piece word tag }
-{
-    if 3 <= word {
-        return NO_WORD;
-    }
-    tag
-}
-
-// The number of a mode's word.
-fn mode_piece(m: Mode) -> u8
-    ensures { result ≡ mode_piece m }
+// A mode's word.
+fn mode_word(m: Mode) -> &'static [u8]
+    ensures { result.now ≡ published_mode m }
 {
     match m {
-        Mode::Relaxed => 3,
-        Mode::Strict => 4,
+        Mode::Relaxed => b"r",
+        Mode::Strict => b"s",
     }
 }
 
-// The number of the word of t.
-fn testing_piece(t: bool) -> u8
-    ensures { result ≡ testing_piece t }
+// The word of t.
+fn testing_word(t: bool) -> &'static [u8]
+    ensures { result.now ≡ published_testing t }
 {
-    if t {
-        return 6;
-    }
-    5
+    if t { b"y" } else { b"n" }
 }
 
-// The numbers of all words and tags after the domain.
-fn published_pieces(s: Settings) -> [u8; 16]
-    ensures { result ≡ published_pieces s }
+// A word between its tags, where there is one.
+fn put_optional(start: &[u8], word: &[u8], end: &[u8], at: usize, out: &mut [u8]) -> usize
+    ensures { Puts (if is_empty word.now then [] else start.now ++ word.now ++ end.now) at out.old result out.new }
 {
-    let usable = force_policies::is_usable(s);
-    let p = s.p;
-    let sp = s.sp;
-    let np = s.np;
-    let adkim = s.adkim;
-    let aspf = s.aspf;
-    let second = setting_piece(usable, sp);
-    let third = setting_piece(usable, np);
-    [
-        7,
-        setting_piece(usable, p),
-        8,
-        tag_piece(second, 9),
-        second,
-        tag_piece(second, 10),
-        tag_piece(third, 11),
-        third,
-        tag_piece(third, 12),
-        13,
-        mode_piece(adkim),
-        14,
-        mode_piece(aspf),
-        15,
-        testing_piece(s.t),
-        16,
-    ]
+    if word.is_empty() {
+        return at;
+    }
+    let middle = octets_pieces::put_then(start, word, at, out);
+    octets_pieces::put(end, middle, out)
 }
 
 // The element `policy_published`, of a domain in either case.
 pub fn put_published(domain: &[u8], s: Settings, at: usize, out: &mut [u8]) -> usize
     ensures { Puts (policy_published (lower domain.now) (published s)) at out.old result out.new }
 {
-    let words = WORDS;
-    let begins = BEGINS;
-    let list = published_pieces(s);
-    let begin = octets_pieces::put(b"<policy_published><domain>", at, out);
-    let middle = octets_pieces::put_lower_then(domain, b"", begin, out);
-    octets_pieces::put_pieces(&words, &begins, &list, middle, out)
+    let shown = published(s);
+    let first = octets_pieces::put(b"<policy_published><domain>", at, out);
+    let second = octets_pieces::put_lower_then(domain, b"</domain><p>", first, out);
+    let third = octets_pieces::put_then(setting_word(shown.p), b"</p>", second, out);
+    let fourth = put_optional(b"<sp>", setting_word(shown.sp), b"</sp>", third, out);
+    let fifth = put_optional(b"<np>", setting_word(shown.np), b"</np>", fourth, out);
+    let texts: [&[u8]; 7] = [
+        b"<adkim>",
+        mode_word(shown.adkim),
+        b"</adkim><aspf>",
+        mode_word(shown.aspf),
+        b"</aspf><testing>",
+        testing_word(shown.t),
+        b"</testing></policy_published>",
+    ];
+    octets_pieces::put_all(&texts, fifth, out)
 }

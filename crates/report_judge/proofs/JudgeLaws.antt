@@ -4,42 +4,19 @@ use mathlib.Core.List.{[], ◌∷◌}
 use mathlib.Core.Bool.{Bool, true, false, ◌&&◌, not}
 use Prim.Native.Nat.{ℕ, zero, suc, ◌-◌, ◌≤◌, ◌<◌}
 use native.Mathlib.Omega.{arith}
-use lib.Dec.{eqb}
-use lib.ListN.{length, drop, get_or}
+use lib.ListN.{length, drop}
 use borrow.Author.Tests.{eq-eqb, ne_eqb, not-true, not-false}
 use Rattle.octets.specs.Octets.{Octets, all, is_nothing}
 use Rattle.octets.specs.Framing.{after_record}
-use Rattle.domain.specs.Domain.{is_domain}
 use Rattle.rows.specs.declared.Row.{Row}
 use Rattle.rows.specs.Lists.{Lists, Reported, reported, body_or_empty, first_body, set_most, set_in, named_by}
 use Rattle.rows.specs.Rows.{is_free}
 use Rattle.rows_named.proofs.NamingLaws.{set_step}
-use Rattle.report.specs.Report.{good_identifier, good_line}
+use Rattle.report.specs.Report.{good_line}
 use Rattle.rows_gather.specs.code.Gathered.{number_from, row_of, rows_of}
-use Rattle.report_rows.specs.code.Lines.{author_at, set_at, names_at, line_of}
+use Rattle.report_rows.specs.code.Lines.{line_of}
+use Rattle.report_judge.specs.declared.Test.{Test}
 use Rattle.report_judge.specs.code.Judging.{is_named, counted_passes, passes_test}
-
--- ------------------------------------------------------------------ an identifier
-
-module _ (body : Octets) {domain : Octets} (e : domain ≡ (reported body).domain) {good : Bool} (f : good ≡ is_domain domain) where
-  pub bad_domain : not good ≡ true → false ≡ good_identifier (reported body)
-  unfolding good_identifier
-  bad_domain h = rw (← e, sym f ∙ not-true good h)
-
-  module _ (h : not good ≡ false) {kind : ℕ} (k : kind ≡ get_or body 0 255) where
-    pub other_kind : (kind ≡ 1 → ⊥) → true ≡ good_identifier (reported body)
-    unfolding good_identifier reported
-    other_kind n = rw (← e, sym f ∙ not-false good h, ne_eqb (get_or body 0 255) 1 (λ z. n (k ∙ z)))
-
-    pub with_selector : kind ≡ 1 → {selector : Octets} → selector ≡ (reported body).selector → {r : Bool} → r ≡ is_domain selector → r ≡ good_identifier (reported body)
-    unfolding good_identifier reported
-    with_selector o s g = g ∙ rw (← e, sym f ∙ not-false good h, kind_is, ← s)
-      where
-        of_body : get_or body 0 255 ≡ (reported body).kind
-        of_body = refl
-
-        kind_is : eqb (reported body).kind 1 ≡ true
-        kind_is = eq-eqb (reported body).kind 1 (sym (k ∙ of_body) ∙ o)
 
 -- ------------------------------------------------------------------ a set
 
@@ -64,16 +41,7 @@ module _ (f : Reported → Bool) where
 -- ------------------------------------------------------------------ a row
 
 module _ (l : Lists) (row : Octets) where
-  pub bad_author : {author : Octets} {good : Bool} → author ≡ author_at l.authors (row_of row).seen.author → good ≡ is_domain author → not good ≡ true → false ≡ good_line (line_of l (row_of row))
-  unfolding good_line line_of names_at
-  bad_author {good = good} e f h = rw (← e, sym f ∙ not-true good h)
-
-  pub by_set : {author set : Octets} {good r : Bool} → author ≡ author_at l.authors (row_of row).seen.author → good ≡ is_domain author → not good ≡ false
-      → set ≡ set_at l.sets (row_of row).seen.set → r ≡ all good_identifier (set_in set) → r ≡ good_line (line_of l (row_of row))
-  unfolding good_line line_of names_at
-  by_set {good = good} e f h s g = g ∙ rw (← e, sym f ∙ not-false good h, s)
-
-  module _ (test : ℕ) {count : ℕ} (c : count ≡ number_from (drop 28 row)) where
+  module _ (test : Test) {count : ℕ} (c : count ≡ number_from (drop 28 row)) where
     pub row_free : count ≡ 0 → true ≡ passes_test test l (row_of row)
     unfolding passes_test is_free row_of
     row_free e = rw (eq-eqb (number_from (drop 28 row)) 0 (sym c ∙ e))
@@ -83,22 +51,17 @@ module _ (l : Lists) (row : Octets) where
       unfolding is_free row_of
       counts = ne_eqb (number_from (drop 28 row)) 0 (λ z. n (c ∙ z))
 
-      pub row_counts : test ≡ 0 → false ≡ passes_test test l (row_of row)
+      pub row_counts : test ≡ Test.Free → false ≡ passes_test test l (row_of row)
       unfolding passes_test counted_passes
       row_counts e = rw (e, counts)
 
-      pub row_named : test ≡ 1 → {a s : ℕ} {r : Bool} → a ≡ number_from (drop 20 row) → s ≡ number_from (drop 24 row) → r ≡ not (is_nothing (named_by l a s)) → r ≡ passes_test test l (row_of row)
+      pub row_named : test ≡ Test.Named → {a s : ℕ} {r : Bool} → a ≡ number_from (drop 20 row) → s ≡ number_from (drop 24 row) → r ≡ not (is_nothing (named_by l a s)) → r ≡ passes_test test l (row_of row)
       unfolding passes_test counted_passes is_named row_of
       row_named e f g h = h ∙ rw (e, counts, f, g)
 
-      pub row_line : (test ≡ 0 → ⊥) → (test ≡ 1 → ⊥) → {r : Bool} → r ≡ good_line (line_of l (row_of row)) → r ≡ passes_test test l (row_of row)
+      pub row_line : test ≡ Test.Ruled → {r : Bool} → r ≡ good_line (line_of l (row_of row)) → r ≡ passes_test test l (row_of row)
       unfolding passes_test counted_passes
-      row_line p q h = h ∙ rw counts (other test p q)
-        where
-          other : (k : ℕ) → (k ≡ 0 → ⊥) → (k ≡ 1 → ⊥) → good_line (line_of l (row_of row)) ≡ counted_passes k l (row_of row)
-          other zero p q = absurd (p refl)
-          other (suc zero) p q = absurd (q refl)
-          other (suc (suc k)) p q = refl
+      row_line e h = h ∙ rw (e, counts)
 
 -- ------------------------------------------------------------------ rows
 

@@ -1,34 +1,26 @@
 -- Laws of a reader's state where a node begins.
 use mathlib.Core.Path.{◌≡◌, refl, sym, ap, ◌∙◌}
-use mathlib.Core.List.{List, [], ◌∷◌, ◌++◌}
+use mathlib.Core.List.{[], ◌∷◌, ◌++◌}
 use mathlib.Core.Bool.{Bool, true, false}
-use mathlib.Core.Option.{Option, none as nothing, some as just}
-use Prim.Native.Nat.{ℕ, zero, suc, ◌+◌, ◌-◌, ◌≤◌, ◌<◌}
+use Prim.Native.Nat.{ℕ, zero, suc, ◌+◌, ◌≤◌, ◌<◌}
 use native.Mathlib.Omega.{arith}
-use lib.Dec.{eqb, leb, ltb}
-use lib.ListN.{length, length-append, take, get_or}
+use lib.Dec.{eqb}
+use lib.ListN.{length, length-append}
 use borrow.Author.Tests.{eq-eqb, ne_eqb}
-use Rattle.std.specs.Prelude.{if◌then◌else◌}
+use Rattle.std.specs.Prelude.{if◌then◌else◌, Some, Ok}
 use Rattle.octets.specs.Octets.{Octets, is_set, between}
-use Rattle.parsing.specs.Reads.{Reads, give, ◌>>=◌}
-use Rattle.parsing_steps.specs.Stepping.{Step, on, refused, step_of, shut}
-use Rattle.report_form.specs.ReportForm.{Said}
+use Rattle.parsing.specs.Reads.{give, ◌>>=◌}
+use Rattle.parsing_steps.specs.Stepping.{on, shut}
 use Rattle.report_form.specs.code.ReportReading.{next_number, either}
-use Rattle.report_states.specs.Chain.{Open, said_open, with_source, with_identifiers, with_signature, with_sender, without_open, c_source}
-use Rattle.report_states.specs.Standing.{Node, Goes, Place, Kept, address_node, from_literal, l_source_end, from, by, handed, arrive, left_at, address_left, node_of, disposition_numbered, start, kept_new}
+use Rattle.report_states.specs.Chain.{Open, said_open, with_source, with_identifiers, with_signature, with_sender, without_open}
+use Rattle.report_states.specs.Standing.{Goes, address_node, from_literal, l_source_end, from, by, handed, arrive, left_at, address_left, node_of, disposition_numbered, start, kept_new}
 use Rattle.report_states.proofs.NodeLaws.{start_law}
 use Rattle.report_source.specs.code.Sources.{limit, fits_kind, is_sound, source_left}
 use Rattle.report_address.specs.code.Addresses.{kind_of, address_of}
 use Rattle.report_kept.specs.declared.ReaderState.{ReaderState}
-use Rattle.report_kept.specs.declared.Turn.{Turn}
 use Rattle.report_kept.specs.Layout.{name_in, base, identifier_at, listed, pairs, source_in}
 use Rattle.report_kept.proofs.WriteLaws.{name_front, source_front, listed_more}
-use Rattle.report_kept.specs.declared.Written.{Written}
-use Rattle.report_kept.specs.code.View.{known_of, place_of, name_at, so_far_in, kept_of, before_in, within_identifier, is_broken, source_from, left_in, said_in, laid, laid_at, write, turn_step, Turned, Leaves, closing, arrived, at_address, one_more, unwritten, plain}
-
-pub plain_row : (row : Octets) → write unwritten row ≡ row
-unfolding write unwritten laid_at laid
-plain_row row = refl
+use Rattle.report_kept.specs.code.View.{known_of, place_of, name_at, so_far_in, kept_of, before_in, within_identifier, is_broken, source_from, left_in, said_in, write, turn_step, Leaves, closing, arrived, at_address, one_more, plain}
 
 no_name : (b : Bool) (at : ℕ) (row : Octets) → (if b then [] else name_in at 0 row) ≡ []
 unfolding name_in
@@ -76,18 +68,18 @@ lands_address s row =
 
 -- it leads to a node, with what is known then
 pub leaves_to : (s s' : ReaderState) (g : Open → Goes) (n : ℕ) → ((row : Octets) → g (known_of s row) ≡ by (node_of n) (known_of s' row))
-    → is_broken n s'.identifiers ≡ false → (n ≡ 64 → ⊥) → Leaves s g (plain 0 (arrived n s'))
-unfolding plain turn_step arrive by handed write unwritten laid_at laid
+    → is_broken n s'.identifiers ≡ false → (n ≡ 64 → ⊥) → Leaves s g (Ok (plain false (arrived n s')))
+unfolding plain turn_step arrive by handed write
 leaves_to s s' g n e h f row l = ap (λ z. on (arrive z)) (e row) ∙ ap on (sym (lands n s' row h f))
 
-pub leaves_to_address : (s : ReaderState) (g : Open → Goes) → ((row : Octets) → g (known_of s row) ≡ by address_node (known_of s row)) → Leaves s g (plain 0 (at_address s))
-unfolding plain turn_step arrive by handed write unwritten laid_at laid
+pub leaves_to_address : (s : ReaderState) (g : Open → Goes) → ((row : Octets) → g (known_of s row) ≡ by address_node (known_of s row)) → Leaves s g (Ok (plain false (at_address s)))
+unfolding plain turn_step arrive by handed write
 leaves_to_address s g e row l = ap (λ z. on (arrive z)) (e row) ∙ ap on (sym (lands_address s row))
 
 -- a row is handed out there
-pub leaves_with_row : (s : ReaderState) (g : Open → Goes) (n : ℕ) → ((row : Octets) → g (known_of s row) ≡ record { row = just (said_open (known_of s row)); known = known_of s row; node = node_of n })
-    → is_broken n s.identifiers ≡ false → (n ≡ 64 → ⊥) → Leaves s g (plain 1 (arrived n s))
-unfolding plain turn_step arrive handed write unwritten laid_at laid said_in arrived known_of
+pub leaves_with_row : (s : ReaderState) (g : Open → Goes) (n : ℕ) → ((row : Octets) → g (known_of s row) ≡ record { row = Some (said_open (known_of s row)); known = known_of s row; node = node_of n })
+    → is_broken n s.identifiers ≡ false → (n ≡ 64 → ⊥) → Leaves s g (Ok (plain true (arrived n s)))
+unfolding plain turn_step arrive handed write said_in arrived known_of
 leaves_with_row s g n e h f row l = ap (λ z. on (arrive z)) (e row) ∙ ap (λ t. on (give (said_open (known_of s row)) t)) (sym (lands n s row h f))
 
 -- ------------------------------------------------------------------ an identifier more
@@ -154,6 +146,6 @@ closes_sender s row h l = closed_known s 0 row h l
 
 -- behind an identifier
 pub leaves_closed : (s : ReaderState) (kind : ℕ) (g : Open → Goes) (n : ℕ) → ((row : Octets) → length row ≡ 8432 → g (known_of s row) ≡ by (node_of n) (known_of (one_more s) (write (closing s kind) row)))
-    → is_broken n (s.identifiers + 1) ≡ false → (n ≡ 64 → ⊥) → Leaves s g (record { says = 0; state = arrived n (one_more s); written = closing s kind })
+    → is_broken n (s.identifiers + 1) ≡ false → (n ≡ 64 → ⊥) → Leaves s g (Ok (record { gives = false; state = arrived n (one_more s); written = closing s kind }))
 unfolding turn_step arrive by handed one_more
 leaves_closed s kind g n e h f row l = ap (λ z. on (arrive z)) (e row l) ∙ ap on (sym (lands n (one_more s) (write (closing s kind) row) h f))

@@ -1,7 +1,7 @@
 // What a reader of aggregate reports keeps: definitions and laws. All of it is numbers, and every octet has a field.
 #![tactic(auto)]
 
-ghost use Rattle.std.specs.Prelude.{◌≡◌};
+ghost use Rattle.std.specs.Prelude.{◌≡◌, true, false};
 ghost use Rattle.report_kept.specs.code.View.{arrived, at_address, plain};
 
 // How many octets are taken; the refusal's number, 0 for none; the open number; begin, and the row's count; how many octets of the open
@@ -40,21 +40,19 @@ pub struct ReaderState {
     pub outcome: u8,
 }
 
-// What is written into the row's octets: at most four from a place on.
+// What is written into the row's octets from a place on.
 #[derive(Clone, Copy)]
-pub struct Written {
-    pub at: u16,
-    pub count: u8,
-    pub first: u8,
-    pub second: u8,
-    pub third: u8,
-    pub fourth: u8,
+pub enum Written {
+    Nothing,
+    One(u16, u8),
+    Two(u16, u8, u8),
+    Four(u16, u8, u8, u8, u8),
 }
 
-// What an octet says: 0 the text goes on, 1 a row is handed out too, 20 or 21 it is refused; the state then, and what is written.
+// What an octet that is not refused leaves: whether a row is handed out, the state then, and what is written.
 #[derive(Clone, Copy)]
 pub struct Turn {
-    pub says: u8,
+    pub gives: bool,
     pub state: ReaderState,
     pub written: Written,
 }
@@ -63,51 +61,50 @@ pub struct Turn {
 pub fn arrive(s: ReaderState, node: u8) -> ReaderState
     ensures { result ≡ arrived node s }
 {
-    let mut after = s;
-    after.node = node;
-    after.which = 0;
-    after.at = 0;
-    after.length = 0;
-    after.label = 0;
-    after.value = 0;
-    after.some = 0;
-    after
+    ReaderState {
+        node,
+        which: 0,
+        at: 0,
+        length: 0,
+        label: 0,
+        value: 0,
+        some: 0,
+        ..s
+    }
 }
 
 // At an address's start.
 pub fn begin_address(s: ReaderState) -> ReaderState
     ensures { result ≡ at_address s }
 {
-    let mut after = s;
-    after.node = 64;
-    after.which = 0;
-    after.at = 0;
-    after.length = 0;
-    after.label = 0;
-    after.value = 0;
-    after.some = 0;
-    after.kind = 0;
-    after.digits = 0;
-    after.numbers = 0;
-    after.ten = 0;
-    after.sixteen = 0;
-    after
+    ReaderState {
+        kind: 0,
+        digits: 0,
+        numbers: 0,
+        ten: 0,
+        sixteen: 0,
+        ..arrive(s, 64)
+    }
 }
 
-// A turn that writes nothing.
-pub fn say(says: u8, s: ReaderState) -> Turn
-    ensures { result ≡ plain says s }
+// A turn that writes nothing, and hands out no row.
+pub fn go_on(s: ReaderState) -> Turn
+    ensures { result ≡ plain false s }
 {
     Turn {
-        says,
+        gives: false,
         state: s,
-        written: Written {
-            at: 0,
-            count: 0,
-            first: 0,
-            second: 0,
-            third: 0,
-            fourth: 0,
-        },
+        written: Written::Nothing,
+    }
+}
+
+// One that writes nothing, and hands out the row.
+pub fn hand_out(s: ReaderState) -> Turn
+    ensures { result ≡ plain true s }
+{
+    Turn {
+        gives: true,
+        state: s,
+        written: Written::Nothing,
     }
 }

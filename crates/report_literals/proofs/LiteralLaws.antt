@@ -1,33 +1,36 @@
 -- Laws of literals: where each leads.
 use mathlib.Core.Path.{◌≡◌, refl, sym, ap, ◌∙◌, subst}
-use mathlib.Core.List.{List, [], ◌∷◌, ◌++◌, map, flatten}
+use mathlib.Core.List.{[], flatten}
 use mathlib.Core.Logic.{◌⊎◌, inl, inr}
 use mathlib.Core.Bool.{Bool, true, false, ◌||◌, not, false≢true}
-use mathlib.Core.Option.{Option, none as nothing, some as just}
-use Prim.Native.Nat.{ℕ, zero, suc, ◌+◌, ◌*◌, ◌-◌, ◌≤◌, ◌<◌}
+use Prim.Native.Nat.{ℕ, zero, suc, ◌+◌, ◌*◌, ◌≤◌, ◌<◌}
 use native.Mathlib.Omega.{arith}
-use lib.Dec.{eqb, leb, ltb}
-use lib.ListN.{length, length-append, take, get_or}
-use borrow.Author.Tests.{eq-eqb, ne_eqb, lt-ltb, le-ltb, lt-leb, le-leb, ltb-true, eqb-true, eqb-false, leb-false}
-use Rattle.std.specs.Prelude.{if◌then◌else◌}
+use lib.Dec.{eqb, ltb}
+use lib.ListN.{length, get_or}
+use borrow.Author.Tests.{ne_eqb, lt-leb, le-leb, ltb-true, eqb-true, eqb-false, leb-false}
+use Rattle.std.specs.Prelude.{if◌then◌else◌, Some}
 use Rattle.octets.specs.Octets.{Octets, octets, is_set, between}
-use Rattle.policy.specs.declared.Policy.{Policy}
-use Rattle.parsing.specs.Reads.{Reads}
-use Rattle.parsing_steps.specs.Stepping.{Step, on, refused, step_of, behind}
+use Rattle.parsing_steps.specs.Stepping.{step_of}
 use Rattle.parsing_steps.proofs.StepLaws.{behind_past}
 use Rattle.report_form.specs.ReportForm.{Said}
-use Rattle.report_form.specs.code.ReportReading.{Disposition, passed, applied}
-use Rattle.report_states.specs.Chain.{Open, said_open, with_dkim, with_spf, with_signature, with_sender}
-use Rattle.report_states.specs.Standing.{Literal, Node, Goes, literal_node, address_node, by, arrive, literal_text, literal_goes, dkim_node, spf_node, results_node, records_node, disposition_numbered, nodes, node_of, left_at, l_report, l_org_end, l_email_end, l_extra_end, l_id_end, l_begin_end, l_end_end, l_domain_end, l_p_end, l_sp_end, l_np_end, l_adkim_end, l_aspf_end, l_testing_end, l_row, l_source_end, l_count_end, l_disposition_end, l_dkim_fail, l_dkim_end, l_spf_fail, l_spf_pass, l_spf_end, l_author_end, l_item_start, l_signature, l_signature_domain_end, l_selector_end, l_signature_end, l_sender, l_sender_domain_end, l_sender_end, l_full, l_record_end, l_more_start, l_feedback}
-use Rattle.report_leaves.specs.code.Leaves.{meant}
+use Rattle.report_form.specs.code.ReportReading.{passed}
+use Rattle.report_states.specs.Chain.{said_open, with_dkim, with_spf}
+use Rattle.report_states.specs.Standing.{Literal, literal_node, by, arrive, literal_text, literal_goes, dkim_node, spf_node, results_node, records_node, disposition_numbered, nodes, node_of, left_at, l_report, l_org_end, l_email_end, l_extra_end, l_id_end, l_begin_end, l_end_end, l_domain_end, l_p_end, l_sp_end, l_np_end, l_adkim_end, l_aspf_end, l_testing_end, l_row, l_source_end, l_count_end, l_disposition_end, l_dkim_fail, l_dkim_end, l_spf_fail, l_spf_pass, l_spf_end, l_author_end, l_item_start, l_signature, l_signature_domain_end, l_selector_end, l_signature_end, l_sender, l_sender_domain_end, l_sender_end, l_full, l_record_end, l_more_start, l_feedback}
+use Rattle.std.specs.Prelude.{Result, Ok, Err}
+use Rattle.report_steps.specs.declared.Leaf.{Leaf}
+use Rattle.report_steps.specs.declared.Refusal.{Refusal}
+use Rattle.report_steps.specs.code.Steps.{refusal_number}
+use Rattle.report_leaves.specs.code.Leaves.{said}
+use Rattle.report_words.proofs.PieceSteps.{Answer, PieceSays}
+use Rattle.report_kept.specs.declared.Written.{Written}
 use Rattle.report_words.specs.code.Table.{literals, word_nodes, texts}
 use Rattle.report_values.proofs.NodeSteps.{goes, literal_step}
 use Rattle.report_kept.specs.declared.ReaderState.{ReaderState}
 use Rattle.report_kept.specs.declared.Turn.{Turn}
-use Rattle.report_kept.specs.Layout.{base, listed}
-use Rattle.report_kept.specs.code.View.{known_of, place_of, kept_of, so_far_in, within_identifier, is_broken, left_in, said_in, laid, laid_at, write, turn_step, Turned, Leaves, closing, arrived, at_address, further, flagged, one_more, closed_state, unwritten, plain}
+use Rattle.report_kept.specs.Layout.{base}
+use Rattle.report_kept.specs.code.View.{known_of, place_of, kept_of, so_far_in, within_identifier, is_broken, left_in, write, turn_step, Turned, Leaves, closing, arrived, at_address, further, flagged, one_more, closed_state, plain}
 use Rattle.report_kept.proofs.ArriveLaws.{left_other, leaves_to, leaves_to_address, leaves_with_row, leaves_closed, closes_signature, closes_sender, listed_length}
-use Rattle.report_literals.specs.code.Literals.{literal_of, nexts, dkim_number, spf_number, results_number, next_number_of, flagged_by, closed, behind_number, closed_if, LeavesLiteral, TurnsLiteral}
+use Rattle.report_literals.specs.code.Literals.{literal_of, nexts, dkim_number, spf_number, results_number, next_number_of, flagged_by, closed, behind_number, closed_if}
 
 -- of the first numbers, one after the other
 unfoldable Each : ℕ → (ℕ → Type 0) → Type 0
@@ -359,7 +362,7 @@ module _ (s : ReaderState) (h : s.node < 36) (calm : is_broken s.node s.identifi
   here : s.node ≡ number_of lit
   here = number_back s.node h
 
-  pub leaves_plain : is_plain s.node ≡ true → Leaves s (literal_goes lit) (plain 0 (arrived (next_number_of s.node s.disposition s.dkim s.identifiers s.left) s))
+  pub leaves_plain : is_plain s.node ≡ true → Leaves s (literal_goes lit) (Ok (plain false (arrived (next_number_of s.node s.disposition s.dkim s.identifiers s.left) s)))
   unfolding Fine
   leaves_plain e =
       let fine = fine_next lit s.disposition s.dkim s.identifiers s.left (ap is_plain (sym here) ∙ e) (ap (λ n. is_broken n s.identifiers) (sym here) ∙ calm) in
@@ -372,19 +375,19 @@ module _ (s : ReaderState) (h : s.node < 36) (calm : is_broken s.node s.identifi
   at_literal : (l : Literal) → s.node ≡ number_of l → literal_of (number_of l) ≡ l → lit ≡ l
   at_literal l e f = ap literal_of e ∙ f
 
-  pub leaves_row : s.node ≡ 14 → Leaves s (literal_goes lit) (plain 0 (at_address s))
+  pub leaves_row : s.node ≡ 14 → Leaves s (literal_goes lit) (Ok (plain false (at_address s)))
   unfolding literal_goes literal_of literals number_of
   leaves_row e = leaves_to_address s (literal_goes lit) (λ row. ap (λ l. literal_goes l (known_of s row)) (at_literal l_row e refl))
 
-  pub leaves_dkim_fail : s.node ≡ 18 → Leaves s (literal_goes lit) (plain 0 (arrived 19 (flagged 0 s.spf s)))
+  pub leaves_dkim_fail : s.node ≡ 18 → Leaves s (literal_goes lit) (Ok (plain false (arrived 19 (flagged 0 s.spf s))))
   unfolding literal_goes literal_of literals number_of known_of flagged with_dkim is_set node_of nodes is_broken within_identifier between
   leaves_dkim_fail e = leaves_to s (flagged 0 s.spf s) (literal_goes lit) 19 (λ row. ap (λ l. literal_goes l (known_of s row)) (at_literal l_dkim_fail e refl)) refl (λ q. omega (arith, q))
 
-  pub leaves_spf_fail : s.node ≡ 20 → Leaves s (literal_goes lit) (plain 0 (arrived 22 (flagged s.dkim 0 s)))
+  pub leaves_spf_fail : s.node ≡ 20 → Leaves s (literal_goes lit) (Ok (plain false (arrived 22 (flagged s.dkim 0 s))))
   unfolding literal_goes literal_of literals number_of known_of flagged with_spf is_set node_of nodes is_broken within_identifier between
   leaves_spf_fail e = leaves_to s (flagged s.dkim 0 s) (literal_goes lit) 22 (λ row. ap (λ l. literal_goes l (known_of s row)) (at_literal l_spf_fail e refl)) refl (λ q. omega (arith, q))
 
-  pub leaves_spf_pass : s.node ≡ 21 → Leaves s (literal_goes lit) (plain 0 (arrived 22 (flagged s.dkim 1 s)))
+  pub leaves_spf_pass : s.node ≡ 21 → Leaves s (literal_goes lit) (Ok (plain false (arrived 22 (flagged s.dkim 1 s))))
   unfolding literal_goes literal_of literals number_of known_of flagged with_spf is_set node_of nodes is_broken within_identifier between
   leaves_spf_pass e = leaves_to s (flagged s.dkim 1 s) (literal_goes lit) 22 (λ row. ap (λ l. literal_goes l (known_of s row)) (at_literal l_spf_pass e refl)) refl (λ q. omega (arith, q))
 
@@ -393,7 +396,7 @@ module _ (s : ReaderState) (h : s.node < 36) (calm : is_broken s.node s.identifi
   few (inl e) = leb-false 16 s.identifiers (ap (λ n. is_broken n s.identifiers) (sym e) ∙ calm)
   few (inr e) = leb-false 16 s.identifiers (ap (λ n. is_broken n s.identifiers) (sym e) ∙ calm)
 
-  pub leaves_signature : s.node ≡ 28 → Leaves s (literal_goes lit) (record { says = 0; state = arrived (results_number (s.identifiers + 1)) (one_more s); written = closing s 1 })
+  pub leaves_signature : s.node ≡ 28 → Leaves s (literal_goes lit) (Ok (record { gives = false; state = arrived (results_number (s.identifiers + 1)) (one_more s); written = closing s 1 }))
   unfolding literal_goes literal_of literals number_of results_node results_number Fine known_of one_more
   leaves_signature e =
       let fine = fine_results (s.identifiers + 1) in
@@ -405,18 +408,18 @@ module _ (s : ReaderState) (h : s.node < 36) (calm : is_broken s.node s.identifi
       ∙ ap (λ m. by m (known_of (one_more s) (write (closing s 1) row))) (ap (λ k. if ltb k 16 then literal_node l_item_start else literal_node l_full) (listed_length (s.identifiers + 1) (write (closing s 1) row)) ∙ results_is (ltb (s.identifiers + 1) 16)))
       fine.0 (eqb-false n 64 fine.1)
 
-  pub leaves_sender : s.node ≡ 31 → Leaves s (literal_goes lit) (record { says = 0; state = arrived 33 (one_more s); written = closing s 0 })
+  pub leaves_sender : s.node ≡ 31 → Leaves s (literal_goes lit) (Ok (record { gives = false; state = arrived 33 (one_more s); written = closing s 0 }))
   unfolding literal_goes literal_of literals number_of node_of nodes is_broken within_identifier between
   leaves_sender e =
       leaves_closed s 0 (literal_goes lit) 33 (λ row l. ap (λ m. literal_goes m (known_of s row)) (at_literal l_sender_end e refl) ∙ ap (λ o. by (literal_node l_record_end) o) (sym (closes_sender s row (few (inr e)) l)))
       refl (λ q. omega (arith, q))
 
-  pub leaves_record : s.node ≡ 33 → Leaves s (literal_goes lit) (plain 1 (arrived (if eqb s.left 0 then 35 else 34) s))
+  pub leaves_record : s.node ≡ 33 → Leaves s (literal_goes lit) (Ok (plain true (arrived (if eqb s.left 0 then 35 else 34) s)))
   unfolding literal_goes literal_of literals number_of records_node known_of Fine
   leaves_record e =
       let fine = fine_records s.identifiers (eqb s.left 0) in
       leaves_with_row s (literal_goes lit) (if eqb s.left 0 then 35 else 34)
-      (λ row. ap (λ m. literal_goes m (known_of s row)) (at_literal l_record_end e refl) ∙ ap (λ m. record { row = just (said_open (known_of s row)); known = known_of s row; node = m }) (records_is (eqb s.left 0)))
+      (λ row. ap (λ m. literal_goes m (known_of s row)) (at_literal l_record_end e refl) ∙ ap (λ m. record { row = Some (said_open (known_of s row)); known = known_of s row; node = m }) (records_is (eqb s.left 0)))
       fine.0 (eqb-false _ 64 fine.1)
 
   -- ------------------------------------------------------------------ an octet
@@ -426,124 +429,42 @@ module _ (s : ReaderState) (h : s.node < 36) (calm : is_broken s.node s.identifi
       left_other s' row ((λ j. is_broken (e j) (f j)) ∙ calm) (λ q. omega (arith, q, e, h))
       ∙ ap (λ m. left_at m (place_of s') (kept_of s' row)) (ap node_of (e ∙ here) ∙ node_literal lit)
 
-  abbrev Says : (x says : ℕ) → Type 0
-  Says x says = step_of (behind {R = Said} s.at (get_or texts s.node [])) x ≡ meant says (behind (s.at + 1) (get_or texts s.node [])) tt
+  abbrev Says : ℕ → Answer → Type 0
+  Says x r = PieceSays (get_or texts s.node []) s.at x r
 
-  literal_on : (x says : ℕ) (row : Octets) → Says x says
-      → step_of (left_in s row) x ≡ goes says (left_in (further (s.at + 1) s) row) (arrive (literal_goes lit (known_of s row)))
+  literal_on : (x : ℕ) (r : Answer) (row : Octets) → Says x r
+      → step_of (left_in s row) x ≡ goes (λ _. left_in (further (s.at + 1) s) row) (arrive (literal_goes lit (known_of s row))) r
   unfolding kept_of so_far_in known_of further place_of
-  literal_on x says row e =
+  literal_on x r row e =
       ap (λ t. step_of t x) (left_literal s row refl refl)
-      ∙ literal_step (place_of s) (place_of (further (s.at + 1) s)) (kept_of s row) x says lit refl
-      (subst (λ t. step_of (behind {R = Said} s.at t) x ≡ meant says (behind (s.at + 1) t) tt) (ap (λ n. get_or texts n []) here ∙ text_literal lit) e)
-      ∙ ap (λ t. goes says t (arrive (literal_goes lit (known_of s row)))) (sym (left_literal (further (s.at + 1) s) row refl refl))
+      ∙ literal_step (place_of s) (place_of (further (s.at + 1) s)) (kept_of s row) x lit r refl
+      (subst (λ t. PieceSays t s.at x r) (ap (λ n. get_or texts n []) here ∙ text_literal lit) e)
+      ∙ ap (λ t. goes (λ _. t) (arrive (literal_goes lit (known_of s row))) r) (sym (left_literal (further (s.at + 1) s) row refl refl))
 
-  pub turns_on : (x says : ℕ) → says ≡ 0 → Says x says → Turned s false x (plain 0 (further (s.at + 1) s))
-  unfolding goes turn_step plain write unwritten laid_at laid
-  turns_on x says q e row l f = literal_on x 0 row (subst (Says x) q e)
+  pub turns_on : (x : ℕ) → Says x (Ok (Leaf.More tt)) → Turned s false x (Ok (plain false (further (s.at + 1) s)))
+  unfolding goes turn_step plain write
+  turns_on x e row l f = literal_on x (Ok (Leaf.More tt)) row e
 
-  pub turns_ended : (x says : ℕ) (r : Turn) → says ≡ 1 → Says x says → Leaves s (literal_goes lit) r → Turned s false x r
+  pub turns_ended : (x : ℕ) (r : Result Turn Refusal) → Says x (Ok Leaf.Ended) → Leaves s (literal_goes lit) r → Turned s false x r
   unfolding goes
-  turns_ended x says r q e g row l f = literal_on x 1 row (subst (Says x) q e) ∙ g row l
+  turns_ended x r e g row l f = literal_on x (Ok Leaf.Ended) row e ∙ g row l
 
-  pub turns_refused : (x says : ℕ) → (says ≡ 0 → ⊥) → (says ≡ 1 → ⊥) → Says x says → Turned s false x (plain says s)
-  unfolding goes turn_step plain write unwritten laid_at laid
-  turns_refused x says a b e row l f = literal_on x says row e ∙ rw (ne_eqb says 0 a, ne_eqb says 1 b) refl
+  pub turns_refused : (x : ℕ) (r : Refusal) → Says x (Err r) → Turned s false x (Err r)
+  unfolding goes turn_step
+  turns_refused x r e row l f = literal_on x (Err r) row e
 
-  pub turns_past : (x : ℕ) → 116 ≤ s.at → Turned s false x (plain 20 s)
-  unfolding meant
+  pub turns_past : (x : ℕ) → 116 ≤ s.at → Turned s false x (Err Refusal.Outside)
+  unfolding said refusal_number
   turns_past x a =
-      turns_refused x 20 (λ e. omega (arith, e)) (λ e. omega (arith, e))
+      turns_refused x Refusal.Outside
       (behind_past Said s.at (get_or texts s.node []) x (let same = ap length (ap (λ n. get_or texts n []) here ∙ text_literal lit) in let short = short_literal lit in omega (arith, same, short, a)))
 
 -- ------------------------------------------------------------------ as the code says them
 
-pub dkim_none : (d : ℕ) → d ≡ 1 → 18 ≡ dkim_number d
-unfolding dkim_number
-dkim_none d e = rw (eq-eqb d 1 e) refl
-
-pub dkim_other : (d : ℕ) → (d ≡ 1 → ⊥) → 46 ≡ dkim_number d
-unfolding dkim_number
-dkim_other d e = rw (ne_eqb d 1 e) refl
-
-pub results_less : (n : ℕ) → n < 16 → 24 ≡ results_number n
-unfolding results_number
-results_less n h = rw (lt-ltb n 16 h) refl
-
-pub results_all : (n : ℕ) → 16 ≤ n → 32 ≡ results_number n
-unfolding results_number
-results_all n h = rw (le-ltb n 16 h) refl
-
-pub behind_signature : (kind n : ℕ) → kind ≡ 1 → results_number n ≡ behind_number kind n
-unfolding behind_number
-behind_signature kind n e = rw (eq-eqb kind 1 e) refl
-
-pub behind_sender : (kind n : ℕ) → (kind ≡ 1 → ⊥) → 33 ≡ behind_number kind n
-unfolding behind_number
-behind_sender kind n e = rw (ne_eqb kind 1 e) refl
-
-module _ (d k : ℕ) where
-  pub spf_none : d ≡ 1 → 20 ≡ spf_number d k
-  unfolding spf_number
-  spf_none e = rw (eq-eqb d 1 e) refl
-
-  pub spf_second : d ≡ 2 → 47 ≡ spf_number d k
-  unfolding spf_number
-  spf_second e = rw e refl
-
-  pub spf_third : d ≡ 3 → 47 ≡ spf_number d k
-  unfolding spf_number
-  spf_third e = rw e refl
-
-  pub spf_passed : (d ≡ 1 → ⊥) → (d ≡ 2 → ⊥) → (d ≡ 3 → ⊥) → (k ≡ 0 → ⊥) → 47 ≡ spf_number d k
-  unfolding spf_number is_set
-  spf_passed e f g h = rw (ne_eqb d 1 e, ne_eqb d 2 f, ne_eqb d 3 g, ne_eqb k 0 h) refl
-
-  pub spf_failed : (d ≡ 1 → ⊥) → (d ≡ 2 → ⊥) → (d ≡ 3 → ⊥) → k ≡ 0 → 21 ≡ spf_number d k
-  unfolding spf_number is_set
-  spf_failed e f g h = rw (ne_eqb d 1 e, ne_eqb d 2 f, ne_eqb d 3 g, eq-eqb k 0 h) refl
-
-nexts_few : length nexts ≤ 36
-unfolding nexts
-nexts_few = omega arith
-
 module _ (n d k i left : ℕ) where
-  pub next_17 : n ≡ 17 → dkim_number d ≡ next_number_of n d k i left
-  unfolding next_number_of
-  next_17 e = rw e refl
-
-  pub next_19 : n ≡ 19 → spf_number d k ≡ next_number_of n d k i left
-  unfolding next_number_of
-  next_19 e = rw e refl
-
-  pub next_23 : n ≡ 23 → results_number i ≡ next_number_of n d k i left
-  unfolding next_number_of
-  next_23 e = rw e refl
-
   pub next_33 : n ≡ 33 → next_number_of n d k i left ≡ (if eqb left 0 then 35 else 34)
   unfolding next_number_of
   next_33 e = rw e refl
-
-  pub next_33_none : n ≡ 33 → left ≡ 0 → 35 ≡ next_number_of n d k i left
-  next_33_none e f = sym (next_33 e ∙ rw (eq-eqb left 0 f) refl)
-
-  pub next_33_some : n ≡ 33 → (left ≡ 0 → ⊥) → 34 ≡ next_number_of n d k i left
-  next_33_some e f = sym (next_33 e ∙ rw (ne_eqb left 0 f) refl)
-
-  pub next_other : (v : ℕ) → v ≡ get_or nexts n 0 → (n ≡ 17 → ⊥) → (n ≡ 19 → ⊥) → (n ≡ 23 → ⊥) → (n ≡ 33 → ⊥) → v ≡ next_number_of n d k i left
-  unfolding next_number_of
-  next_other v q a b e f = rw (ne_eqb n 17 a, ne_eqb n 19 b, ne_eqb n 23 e, ne_eqb n 33 f) q
-
-  pub next_past : 36 ≤ n → 0 ≡ next_number_of n d k i left
-  next_past h = next_other 0 (sym (past n h)) (λ e. omega (arith, e, h)) (λ e. omega (arith, e, h)) (λ e. omega (arith, e, h)) (λ e. omega (arith, e, h))
-    where
-      beyond : (l : List ℕ) (m : ℕ) → length l ≤ m → get_or l m 0 ≡ 0
-      beyond [] m q = refl
-      beyond (x ∷ l) zero q = absurd (omega (arith, q))
-      beyond (x ∷ l) (suc m) q = beyond l m (omega (arith, q))
-
-      past : (m : ℕ) → 36 ≤ m → get_or nexts m 0 ≡ 0
-      past m q = beyond nexts m (let few = nexts_few in omega (arith, q, few))
 
 module _ (n : ℕ) (s : ReaderState) where
   pub flags_18 : n ≡ 18 → flagged 0 s.spf s ≡ flagged_by n s
@@ -563,20 +484,20 @@ module _ (n : ℕ) (s : ReaderState) where
   flags_none e f g = rw (ne_eqb n 18 e, ne_eqb n 20 f, ne_eqb n 21 g) refl
 
 module _ (kind : ℕ) (s : ReaderState) where
-  pub closes_none : 16 ≤ s.identifiers → plain 20 s ≡ closed_if kind s
+  pub closes_none : 16 ≤ s.identifiers → Err Refusal.Outside ≡ closed_if kind s
   unfolding closed_if
   closes_none h = rw (le-leb 16 s.identifiers h) refl
 
   pub closes_some : (n : ℕ) (a : ReaderState) → n ≡ behind_number kind (s.identifiers + 1) → a ≡ arrived n s → s.identifiers < 16
-      → record { says = 0; state = closed_state a (s.identifiers + 1); written = record { at = 778 + 510 * s.identifiers; count = 4; first = s.domain; second = s.selector; third = s.outcome; fourth = kind } } ≡ closed_if kind s
+      → Ok (record { gives = false; state = closed_state a (s.identifiers + 1); written = Written.Four (778 + 510 * s.identifiers) s.domain s.selector s.outcome kind }) ≡ closed_if kind s
   unfolding closed_if closed closing base arrived one_more closed_state
   closes_some n a e f h =
       let same : 778 + 510 * s.identifiers ≡ 272 + 510 * s.identifiers + 506 = omega arith in
       rw (lt-leb 16 s.identifiers h) (
-      ap (λ z. record { says = 0; state = closed_state z (s.identifiers + 1); written = record { at = 778 + 510 * s.identifiers; count = 4; first = s.domain; second = s.selector; third = s.outcome; fourth = kind } }) f
-      ∙ (λ j. record { says = 0; state = arrived (e j) (one_more s); written = record { at = same j; count = 4; first = s.domain; second = s.selector; third = s.outcome; fourth = kind } }))
+      ap (λ z. Ok (record { gives = false; state = closed_state z (s.identifiers + 1); written = Written.Four (778 + 510 * s.identifiers) s.domain s.selector s.outcome kind })) f
+      ∙ (λ j. Ok (record { gives = false; state = arrived (e j) (one_more s); written = Written.Four (same j) s.domain s.selector s.outcome kind })))
 
-  closed_is : s.identifiers < 16 → closed_if kind s ≡ closed kind (behind_number kind (s.identifiers + 1)) s
+  closed_is : s.identifiers < 16 → closed_if kind s ≡ Ok (closed kind (behind_number kind (s.identifiers + 1)) s)
   unfolding closed_if
   closed_is h = rw (lt-leb 16 s.identifiers h) refl
 
@@ -591,12 +512,12 @@ module _ (s : ReaderState) (h : s.node < 36) (calm : is_broken s.node s.identifi
 
   -- all others
   pub leaves_others : (s.node ≡ 14 → ⊥) → (s.node ≡ 28 → ⊥) → (s.node ≡ 31 → ⊥) → (s.node ≡ 33 → ⊥)
-      → Leaves s (literal_goes (literal_of s.node)) (plain 0 (arrived (next_number_of s.node s.disposition s.dkim s.identifiers s.left) (flagged_by s.node s)))
+      → Leaves s (literal_goes (literal_of s.node)) (Ok (plain false (arrived (next_number_of s.node s.disposition s.dkim s.identifiers s.left) (flagged_by s.node s))))
   unfolding is_plain next_number_of nexts
   leaves_others a b d e = go (eqb s.node 18) refl (eqb s.node 20) refl (eqb s.node 21) refl
     where
       Out : ℕ → ReaderState → Type 0
-      Out n z = Leaves s (literal_goes (literal_of s.node)) (plain 0 (arrived n z))
+      Out n z = Leaves s (literal_goes (literal_of s.node)) (Ok (plain false (arrived n z)))
 
       next_is : ℕ
       next_is = next_number_of s.node s.disposition s.dkim s.identifiers s.left

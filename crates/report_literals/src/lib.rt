@@ -5,12 +5,7 @@ ghost use Rattle.std.specs.Prelude.{◌≡◌};
 ghost use Rattle.report_literals.specs.code.Literals.{dkim_number, spf_number, results_number, next_number_of, behind_number, closed_if, flagged_by, LeavesLiteral, TurnsLiteral};
 
 use report_kept::{ReaderState, Turn, Written};
-
-const OUTSIDE: u8 = 20;
-
-const GOES_ON: u8 = 0;
-
-const ENDED: u8 = 1;
+use report_steps::{Leaf, Refusal};
 
 // Where most literals lead.
 const NEXTS: [u8; 36] = [
@@ -19,167 +14,122 @@ const NEXTS: [u8; 36] = [
 ];
 
 // The node of `dkim`, by the disposition: none shuts out pass.
+#[tactic(auto, unfolding(crate::specs::code::Literals::dkim_number))]
 fn find_dkim(disposition: u8) -> u8
     ensures { result ≡ dkim_number disposition }
 {
-    if disposition == 1 {
-        return 18;
-    }
-    46
+    if disposition == 1 { 18 } else { 46 }
 }
 
 // The node of `spf`: none shuts out pass, and pass with dkim fail shuts out fail.
+#[tactic(auto, unfolding(crate::specs::code::Literals::spf_number, octets::specs::Octets::is_set))]
 fn find_spf(disposition: u8, dkim: u8) -> u8
     ensures { result ≡ spf_number disposition dkim }
 {
-    if disposition == 1 {
-        return 20;
+    match disposition {
+        1 => 20,
+        2 | 3 => 47,
+        _ if dkim != 0 => 47,
+        _ => 21,
     }
-    if disposition == 2 {
-        return 47;
-    }
-    if disposition == 3 {
-        return 47;
-    }
-    if dkim != 0 {
-        return 47;
-    }
-    21
 }
 
 // The node behind so many identifiers.
+#[tactic(auto, unfolding(crate::specs::code::Literals::results_number))]
 fn find_results(identifiers: u8) -> u8
     ensures { result ≡ results_number identifiers }
 {
-    if identifiers < 16 {
-        return 24;
-    }
-    32
+    if identifiers < 16 { 24 } else { 32 }
 }
 
 // The node behind a literal.
+#[tactic(auto, unfolding(crate::specs::code::Literals::next_number_of, crate::specs::code::Literals::nexts))]
 pub fn find_next(node: u8, disposition: u8, dkim: u8, identifiers: u8, left: u16) -> u8
     ensures { result ≡ next_number_of node disposition dkim identifiers left }
 {
-    if node == 17 {
-        return find_dkim(disposition);
+    match node {
+        17 => find_dkim(disposition),
+        19 => find_spf(disposition, dkim),
+        23 => find_results(identifiers),
+        33 if left == 0 => 35,
+        33 => 34,
+        _ => NEXTS.get(node as usize).copied().unwrap_or(0),
     }
-    if node == 19 {
-        return find_spf(disposition, dkim);
-    }
-    if node == 23 {
-        return find_results(identifiers);
-    }
-    if node == 33 {
-        if left == 0 {
-            return 35;
-        }
-        return 34;
-    }
-    let nexts = NEXTS;
-    let i = node as usize;
-    if 36 <= i {
-        return 0;
-    }
-    nexts[i]
 }
 
 // What a literal says of dkim and spf.
+#[tactic(auto, unfolding(crate::specs::code::Literals::flagged_by, report_kept::specs::code::View::flagged))]
 fn set_flags(s: ReaderState, node: u8) -> ReaderState
     ensures { result ≡ flagged_by node s }
 {
-    let mut after = s;
-    if node == 18 {
-        after.dkim = 0;
-        return after;
+    match node {
+        18 => ReaderState { dkim: 0, ..s },
+        20 => ReaderState { spf: 0, ..s },
+        21 => ReaderState { spf: 1, ..s },
+        _ => s,
     }
-    if node == 20 {
-        after.spf = 0;
-        return after;
-    }
-    if node == 21 {
-        after.spf = 1;
-        return after;
-    }
-    after
 }
 
 // The node behind an identifier of a kind.
+#[tactic(auto, unfolding(crate::specs::code::Literals::behind_number))]
 fn find_behind(kind: u8, identifiers: u8) -> u8
     ensures { result ≡ behind_number kind identifiers }
 {
     if kind == 1 {
-        return find_results(identifiers);
+        find_results(identifiers)
+    } else {
+        33
     }
-    33
 }
 
 // The open identifier, of a kind, ends: its lengths, outcome and kind are written.
-fn close_identifier(s: ReaderState, kind: u8) -> Turn
+fn close_identifier(s: ReaderState, kind: u8) -> Result<Turn, Refusal>
     ensures { result ≡ closed_if kind s }
 {
     let n = s.identifiers;
     if 16 <= n {
-        return report_kept::say(OUTSIDE, s);
+        return Err(Refusal::Outside);
     }
     let more = n + 1;
-    let place = 778 + 510 * n as u16;
-    let mut after = report_kept::arrive(s, find_behind(kind, more));
-    after.identifiers = more;
-    after.domain = 0;
-    after.selector = 0;
-    after.outcome = 0;
-    Turn {
-        says: GOES_ON,
-        state: after,
-        written: Written {
-            at: place,
-            count: 4,
-            first: s.domain,
-            second: s.selector,
-            third: s.outcome,
-            fourth: kind,
+    let after = report_kept::arrive(s, find_behind(kind, more));
+    Ok(Turn {
+        gives: false,
+        state: ReaderState {
+            identifiers: more,
+            domain: 0,
+            selector: 0,
+            outcome: 0,
+            ..after
         },
-    }
+        written: Written::Four(778 + 510 * n as u16, s.domain, s.selector, s.outcome, kind),
+    })
 }
 
 // Behind a literal.
-pub fn leave_literal(s: ReaderState) -> Turn
+pub fn leave_literal(s: ReaderState) -> Result<Turn, Refusal>
     ensures { LeavesLiteral s result }
 {
     let node = s.node;
-    if node == 14 {
-        return report_kept::say(GOES_ON, report_kept::begin_address(s));
-    }
-    if node == 28 {
-        return close_identifier(s, 1);
-    }
-    if node == 31 {
-        return close_identifier(s, 0);
-    }
     let next = find_next(node, s.disposition, s.dkim, s.identifiers, s.left);
-    if node == 33 {
-        return report_kept::say(1, report_kept::arrive(s, next));
+    match node {
+        14 => Ok(report_kept::go_on(report_kept::begin_address(s))),
+        28 => close_identifier(s, 1),
+        31 => close_identifier(s, 0),
+        33 => Ok(report_kept::hand_out(report_kept::arrive(s, next))),
+        _ => Ok(report_kept::go_on(report_kept::arrive(set_flags(s, node), next))),
     }
-    report_kept::say(GOES_ON, report_kept::arrive(set_flags(s, node), next))
 }
 
 // An octet of a literal.
-pub fn turn_literal(s: ReaderState, x: u8) -> Turn
+pub fn turn_literal(s: ReaderState, x: u8) -> Result<Turn, Refusal>
     ensures { TurnsLiteral s x result }
 {
     let at = s.at;
     if 116 <= at {
-        return report_kept::say(OUTSIDE, s);
+        return Err(Refusal::Outside);
     }
-    let says = report_words::step_piece(s.node, at, x);
-    if says == ENDED {
-        return leave_literal(s);
+    match report_words::step_piece(s.node, at, x)? {
+        Leaf::More(()) => Ok(report_kept::go_on(ReaderState { at: at + 1, ..s })),
+        Leaf::Ended => leave_literal(s),
     }
-    if says == GOES_ON {
-        let mut after = s;
-        after.at = at + 1;
-        return report_kept::say(GOES_ON, after);
-    }
-    report_kept::say(says, s)
 }

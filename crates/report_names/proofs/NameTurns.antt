@@ -1,28 +1,30 @@
 -- Laws of one octet of a name.
 use mathlib.Core.Path.{◌≡◌, refl, sym, ap, ◌∙◌, subst}
-use mathlib.Core.List.{List, [], ◌∷◌, ◌++◌}
+use mathlib.Core.List.{[], ◌∷◌, ◌++◌}
 use mathlib.Core.Logic.{◌⊎◌, inl, inr}
 use mathlib.Core.Bool.{Bool, true, false, false≢true}
-use Prim.Native.Nat.{ℕ, zero, suc, ◌+◌, ◌*◌, ◌-◌, ◌≤◌, ◌<◌}
+use Prim.Native.Nat.{ℕ, zero, suc, ◌+◌, ◌*◌, ◌-◌, ◌≤◌, ◌<◌, min}
 use native.Mathlib.Omega.{arith}
 use lib.Dec.{eqb, leb}
 use lib.ListN.{length, take, drop}
-use borrow.Author.Tests.{eq-eqb, ne_eqb, lt-leb, le-leb, leb-true, leb-false}
+use borrow.Author.Tests.{eq-eqb, ne_eqb, lt-leb, leb-true, leb-false}
 use Rattle.std.specs.Prelude.{if◌then◌else◌}
 use Rattle.octets.specs.Octets.{Octets, is_set, between}
-use Rattle.parsing.specs.Reads.{Reads, ◌>>=◌}
-use Rattle.parsing_steps.specs.Stepping.{Step, on, refused, step_of}
-use Rattle.report_form.specs.ReportForm.{Said}
-use Rattle.report_form.specs.code.ReportReading.{next_number, either, name_from}
-use Rattle.report_states.specs.Chain.{Open, with_author, with_domain, with_selector}
+use Rattle.parsing.specs.Reads.{◌>>=◌}
+use Rattle.parsing_steps.specs.Stepping.{on, step_of}
+use Rattle.report_form.specs.code.ReportReading.{next_number, either}
+use Rattle.report_states.specs.Chain.{with_author, with_domain, with_selector}
 use Rattle.report_states.specs.Standing.{Node, Name, Kept, word_node, text_node, id_node, number_node, address_node, last_node, m_domain, m_author, m_signature, m_selector, m_sender, name_node, literal_node, l_domain_end, by, handed, arrive, from, name_goes, name_left, disposition_numbered, nodes, node_of, left_at}
-use Rattle.report_leaves.specs.code.Leaves.{meant, Names}
+use Rattle.std.specs.Prelude.{Result, Ok, Err}
+use Rattle.report_steps.specs.declared.Leaf.{Leaf}
+use Rattle.report_steps.specs.declared.Refusal.{Refusal}
+use Rattle.report_leaves.specs.declared.NamePlace.{NamePlace as Place}
+use Rattle.report_leaves.specs.code.Leaves.{Names}
 use Rattle.report_values.proofs.NodeSteps.{goes, name_step, name_any}
 use Rattle.report_kept.specs.declared.ReaderState.{ReaderState}
 use Rattle.report_kept.specs.declared.Written.{Written}
-use Rattle.report_kept.specs.declared.Turn.{Turn}
-use Rattle.report_kept.specs.Layout.{name_in, base, listed, source_in}
-use Rattle.report_kept.specs.code.View.{known_of, place_of, name_at, so_far_in, kept_of, within_identifier, is_broken, left_in, said_in, laid, laid_at, write, turn_step, Turned, arrived, longer, named, unwritten, plain}
+use Rattle.report_kept.specs.Layout.{name_in, base, listed}
+use Rattle.report_kept.specs.code.View.{known_of, place_of, name_at, so_far_in, kept_of, within_identifier, is_broken, left_in, laid_at, write, turn_step, Turned, arrived, longer, named, plain}
 use Rattle.report_kept.proofs.ArriveLaws.{left_other, lands}
 use Rattle.report_kept.proofs.WriteLaws.{name_front, name_back, name_more, listed_front, source_front}
 use Rattle.report_names.specs.code.Names.{fitting, name_left_at, NamePlace}
@@ -214,52 +216,47 @@ module _ (s : ReaderState) (a : 59 ≤ s.node) (b : s.node < 64) (calm : is_brok
   abbrev after_octet : (x : ℕ) (row : Octets) → Kept
   after_octet x row = record { known = known_of s row; so_far = so_far_in s row ++ (x ∷ []); address = next_number either [] }
 
-  name_on : (x says length label : ℕ) (row : Octets) → Names s.length s.label x says length label
-      → step_of (left_in s row) x ≡ goes says (left_at (name_node it.0) (place_of (longer s.at length label s)) (after_octet x row)) (arrive (name_goes it.0 (known_of s row) (so_far_in s row)))
-  unfolding place_of kept_of longer
-  name_on x says length label row e =
+  name_on : (x : ℕ) (r : Result (Leaf Place) Refusal) (row : Octets) → Names s.length s.label x r
+      → step_of (left_in s row) x ≡ goes (λ q. left_at (name_node it.0) (place_of (longer s.at q.length q.label s)) (after_octet x row)) (arrive (name_goes it.0 (known_of s row) (so_far_in s row))) r
+  unfolding place_of kept_of longer left_at
+  name_on x r row e =
       ap (λ u. step_of u x) (left_name s row refl refl)
-      ∙ name_step (place_of s) (place_of (longer s.at length label s)) (kept_of s row) x says it.0 (after_octet x row) refl refl e
+      ∙ name_step (place_of s) (kept_of s row) x it.0 r (e (so_far_in s row))
 
-  pub name_ended : (x says length label : ℕ) → says ≡ 1 → Names s.length s.label x says length label → Turned s false x (plain 0 (name_left_at s))
-  unfolding plain write unwritten laid_at laid goes turn_step so_far_in name_left_at
-  name_ended x says length label q e row l f =
-      name_on x says length label row e
-      ∙ ap (λ n. goes n (left_at (name_node it.0) (place_of (longer s.at length label s)) (after_octet x row)) (arrive (name_goes it.0 (known_of s row) (so_far_in s row)))) q
-      ∙ ap on (it.2 row)
+  pub name_ended : (x : ℕ) → Names s.length s.label x (Ok Leaf.Ended) → Turned s false x (Ok (plain false (name_left_at s)))
+  unfolding plain write goes turn_step so_far_in name_left_at
+  name_ended x e row l f = name_on x (Ok Leaf.Ended) row e ∙ ap on (it.2 row)
 
-  pub name_refused : (x says length label : ℕ) → (says ≡ 0 → ⊥) → (says ≡ 1 → ⊥) → Names s.length s.label x says length label → Turned s false x (plain says s)
-  unfolding plain write unwritten laid_at laid goes turn_step
-  name_refused x says length label p q e row l f = name_on x says length label row e ∙ rw (ne_eqb says 0 p, ne_eqb says 1 q) refl
+  pub name_refused : (x : ℕ) (r : Refusal) → Names s.length s.label x (Err r) → Turned s false x (Err r)
+  unfolding goes turn_step
+  name_refused x r e row l f = name_on x (Err r) row e
 
   -- a name that is kept, and the published domain, which is not
-  pub name_kept : (x says length label : ℕ) → says ≡ 0 → Names s.length s.label x says length label → (length ≡ s.length + 1) × (s.length < 253) → (s.node ≡ 59 → ⊥)
-      → Turned s false x (record { says = 0; state = longer s.at length label s; written = record { at = name_at s.node s.identifiers + s.length; count = 1; first = x; second = 0; third = 0; fourth = 0 } })
+  pub name_kept : (x : ℕ) (q : Place) → Names s.length s.label x (Ok (Leaf.More q)) → (q.length ≡ s.length + 1) × (s.length < 253) → (s.node ≡ 59 → ⊥)
+      → Turned s false x (Ok (record { gives = false; state = longer s.at q.length q.label s; written = Written.One (name_at s.node s.identifiers + s.length) x }))
   unfolding write goes turn_step so_far_in left_at name_left place_of kept_of longer known_of
-  name_kept x says length label q e (more, less) other row l f =
+  name_kept x q e (more, less) other row l f =
       let (room, same) = it.3 other in
       let at = name_at s.node s.identifiers in
-      let t = longer s.at length label s in
+      let t = longer s.at q.length q.label s in
       let after = laid_at (at + s.length) (x ∷ []) row in
       let no = ne_eqb s.node 59 other in
-      let so_far : (if eqb s.node 59 then [] else name_in at s.length row) ++ (x ∷ []) ≡ (if eqb s.node 59 then [] else name_in at length after)
+      let so_far : (if eqb s.node 59 then [] else name_in at s.length row) ++ (x ∷ []) ≡ (if eqb s.node 59 then [] else name_in at q.length after)
       = rw no (sym (ap (λ n. name_in at n after) more ∙ name_more at s.length x row less (omega (arith, room, l)))) in
-      name_on x says length label row e
-      ∙ ap (λ n. goes n (left_at (name_node it.0) (place_of t) (after_octet x row)) (arrive (name_goes it.0 (known_of s row) (so_far_in s row)))) q
-      ∙ (λ j. on (name_left length label (so_far j) >>= λ v. arrive (sym (same row x 0 v less) j)))
+      name_on x (Ok (Leaf.More q)) row e
+      ∙ (λ j. on (name_left q.length q.label (so_far j) >>= λ v. arrive (sym (same row x 0 v less) j)))
       ∙ ap on (sym (left_name t after refl refl))
 
-  pub name_skipped : (x says length label : ℕ) → says ≡ 0 → Names s.length s.label x says length label → s.node ≡ 59 → Turned s false x (plain 0 (longer s.at length label s))
-  unfolding plain write unwritten laid_at laid goes turn_step left_at name_left place_of kept_of longer known_of so_far_in name_goes arrive by handed
-  name_skipped x says length label q e is row l f =
-      let t = longer s.at length label s in
-      name_on x says length label row e
-      ∙ ap (λ n. goes n (left_at (name_node it.0) (place_of t) (after_octet x row)) (arrive (name_goes it.0 (known_of s row) (so_far_in s row)))) q
+  pub name_skipped : (x : ℕ) (q : Place) → Names s.length s.label x (Ok (Leaf.More q)) → s.node ≡ 59 → Turned s false x (Ok (plain false (longer s.at q.length q.label s)))
+  unfolding plain write goes turn_step left_at name_left place_of kept_of longer known_of so_far_in name_goes arrive by handed
+  name_skipped x q e is row l f =
+      let t = longer s.at q.length q.label s in
+      name_on x (Ok (Leaf.More q)) row e
       ∙ ap on (at_domain_any it.0 (sym it.1 ∙ ap node_of is))
       ∙ ap on (sym (left_name t row refl refl))
     where
-      at_domain_any : (m : Name) → name_node m ≡ node_of 59 → left_at (name_node m) (place_of (longer s.at length label s)) (after_octet x row) ≡ left_at (name_node m) (place_of (longer s.at length label s)) (kept_of (longer s.at length label s) row)
-      at_domain_any m_domain i = name_any (253 - length) label _ _ (from (literal_node l_domain_end) (known_of s row))
+      at_domain_any : (m : Name) → name_node m ≡ node_of 59 → left_at (name_node m) (place_of (longer s.at q.length q.label s)) (after_octet x row) ≡ left_at (name_node m) (place_of (longer s.at q.length q.label s)) (kept_of (longer s.at q.length q.label s) row)
+      at_domain_any m_domain i = name_any (253 - q.length) q.label _ _ (from (literal_node l_domain_end) (known_of s row))
       at_domain_any m_author i = absurd (no_author i)
       at_domain_any m_signature i = absurd (no_signature i)
       at_domain_any m_selector i = absurd (no_selector i)
@@ -267,61 +264,22 @@ module _ (s : ReaderState) (a : 59 ≤ s.node) (b : s.node < 64) (calm : is_brok
 
 -- ------------------------------------------------------------------ as the code says them
 
-pub fitting_all : (n : ℕ) → 253 ≤ n → 253 ≡ fitting n
-unfolding fitting
-fitting_all n h = rw (le-leb 253 n h) refl
-
-pub fitting_few : (n : ℕ) → n < 253 → n ≡ fitting n
-unfolding fitting
-fitting_few n h = rw (lt-leb 253 n h) refl
-
-module _ (s : ReaderState) where
-  pub left_domain : s.node ≡ 59 → arrived 7 s ≡ name_left_at s
-  unfolding name_left_at
-  left_domain e = rw (eq-eqb s.node 59 e)
-
-  pub left_author : (v : ℕ) → v ≡ fitting s.length → s.node ≡ 60 → arrived 23 (named v 0 0 0 0 s) ≡ name_left_at s
-  unfolding name_left_at
-  left_author v q e = ap (λ n. arrived 23 (named n 0 0 0 0 s)) q ∙ rw (ne_eqb s.node 59 (λ i. omega (arith, i, e)), eq-eqb s.node 60 e)
-
-  pub left_signature : (v : ℕ) → v ≡ fitting s.length → s.node ≡ 61 → arrived 26 (named s.author s.identifiers v s.selector s.outcome s) ≡ name_left_at s
-  unfolding name_left_at
-  left_signature v q e =
-      ap (λ n. arrived 26 (named s.author s.identifiers n s.selector s.outcome s)) q
-      ∙ rw (ne_eqb s.node 59 (λ i. omega (arith, i, e)), ne_eqb s.node 60 (λ i. omega (arith, i, e)), eq-eqb s.node 61 e)
-
-  pub left_selector : (v : ℕ) → v ≡ fitting s.length → s.node ≡ 62 → arrived 27 (named s.author s.identifiers s.domain v s.outcome s) ≡ name_left_at s
-  unfolding name_left_at
-  left_selector v q e =
-      ap (λ n. arrived 27 (named s.author s.identifiers s.domain n s.outcome s)) q
-      ∙ rw (ne_eqb s.node 59 (λ i. omega (arith, i, e)), ne_eqb s.node 60 (λ i. omega (arith, i, e)), ne_eqb s.node 61 (λ i. omega (arith, i, e)), eq-eqb s.node 62 e)
-
-  pub left_sender : (v : ℕ) → v ≡ fitting s.length → (s.node ≡ 59 → ⊥) → (s.node ≡ 60 → ⊥) → (s.node ≡ 61 → ⊥) → (s.node ≡ 62 → ⊥)
-      → arrived 30 (named s.author s.identifiers v s.selector s.outcome s) ≡ name_left_at s
-  unfolding name_left_at
-  left_sender v q d e f g =
-      ap (λ n. arrived 30 (named s.author s.identifiers n s.selector s.outcome s)) q
-      ∙ rw (ne_eqb s.node 59 d, ne_eqb s.node 60 e, ne_eqb s.node 61 f, ne_eqb s.node 62 g)
-
 module _ (n i : ℕ) where
   pub place_author : n ≡ 60 → NamePlace n i 16
   unfolding name_at
   place_author e = (omega arith, λ _. rw (eq-eqb n 60 e))
 
-  pub place_none : (n ≡ 60 → ⊥) → 16 ≤ i → NamePlace n i 0
-  place_none e h = (omega arith, none)
-    where
-      none : n ≡ 60 ⊎ i < 16 → 0 ≡ name_at n i
-      none (inl q) = absurd (e q)
-      none (inr q) = absurd (omega (arith, h, q))
+  at_least : (m : ℕ) → m ≡ min i 15 → n ≡ 60 ⊎ i < 16 → (n ≡ 60 → ⊥) → m ≡ i
+  at_least m e (inl q) f = absurd (f q)
+  at_least m e (inr h) f = omega (arith, e, h)
 
-  pub place_selector : n ≡ 62 → i < 16 → NamePlace n i (272 + 510 * i + 253)
+  pub place_selector : (m : ℕ) → m ≡ min i 15 → n ≡ 62 → NamePlace n i (272 + 510 * m + 253)
   unfolding name_at base
-  place_selector e h = (omega (arith, h), λ _. rw (ne_eqb n 60 (λ q. omega (arith, q, e)), eq-eqb n 62 e) refl)
+  place_selector m e f = (omega (arith, e), λ q. ap (λ k. 272 + 510 * k + 253) (at_least m e q (λ g. omega (arith, g, f))) ∙ rw (ne_eqb n 60 (λ q. omega (arith, q, f)), eq-eqb n 62 f) refl)
 
-  pub place_first : (n ≡ 60 → ⊥) → (n ≡ 62 → ⊥) → i < 16 → NamePlace n i (272 + 510 * i)
+  pub place_first : (m : ℕ) → m ≡ min i 15 → (n ≡ 60 → ⊥) → (n ≡ 62 → ⊥) → NamePlace n i (272 + 510 * m)
   unfolding name_at base
-  place_first e f h = (omega (arith, h), λ _. rw (ne_eqb n 60 e, ne_eqb n 62 f) refl)
+  place_first m e f g = (omega (arith, e), λ q. ap (λ k. 272 + 510 * k) (at_least m e q f) ∙ rw (ne_eqb n 60 f, ne_eqb n 62 g) refl)
 
 -- where it stands, of a name that is kept
 pub name_stands : (s : ReaderState) → 59 ≤ s.node → s.node < 64 → is_broken s.node s.identifiers ≡ false → (s.node ≡ 59 → ⊥) → s.node ≡ 60 ⊎ s.identifiers < 16
@@ -335,8 +293,7 @@ name_stands s a b calm other = go (s.node - 60) refl
     go (suc (suc (suc zero))) e = let is : s.node ≡ 63 = omega (arith, e) in inr (leb-false 16 s.identifiers (ap (λ n. is_broken n s.identifiers) (sym is) ∙ calm))
     go (suc (suc (suc (suc m)))) e = absurd (omega (arith, e, b))
 
-pub kept_at : (s : ReaderState) (x place length label : ℕ) → place ≡ name_at s.node s.identifiers
-    → Turned s false x (record { says = 0; state = longer s.at length label s; written = record { at = name_at s.node s.identifiers + s.length; count = 1; first = x; second = 0; third = 0; fourth = 0 } })
-    → Turned s false x (record { says = 0; state = longer s.at length label s; written = record { at = place + s.length; count = 1; first = x; second = 0; third = 0; fourth = 0 } })
-kept_at s x place length label e h =
-    subst (λ p. Turned s false x (record { says = 0; state = longer s.at length label s; written = record { at = p + s.length; count = 1; first = x; second = 0; third = 0; fourth = 0 } })) (sym e) h
+pub kept_at : (s : ReaderState) (x place : ℕ) (q : Place) → place ≡ name_at s.node s.identifiers
+    → Turned s false x (Ok (record { gives = false; state = longer s.at q.length q.label s; written = Written.One (name_at s.node s.identifiers + s.length) x }))
+    → Turned s false x (Ok (record { gives = false; state = longer s.at q.length q.label s; written = Written.One (place + s.length) x }))
+kept_at s x place q e h = subst (λ p. Turned s false x (Ok (record { gives = false; state = longer s.at q.length q.label s; written = Written.One (p + s.length) x }))) (sym e) h

@@ -5,104 +5,80 @@ ghost use Rattle.std.specs.Prelude.{◌≡◌};
 ghost use Rattle.report_names.specs.code.Names.{TurnsName, fitting, name_left_at, NamePlace};
 
 use report_kept::{ReaderState, Turn, Written};
-
-const GOES_ON: u8 = 0;
-
-const ENDED: u8 = 1;
-
-const OUTSIDE: u8 = 20;
+use report_steps::{Leaf, Refusal};
 
 // How many octets of a name are kept.
+#[tactic(auto, unfolding(crate::specs::code::Names::fitting))]
 fn fit(length: u16) -> u8
     ensures { result ≡ fitting length }
 {
-    if 253 <= length {
-        return 253;
-    }
-    length as u8
+    length.min(253) as u8
 }
 
 // Behind a name.
+#[tactic(auto, unfolding(crate::specs::code::Names::name_left_at, report_kept::specs::code::View::named))]
 pub fn leave_name(s: ReaderState) -> ReaderState
     ensures { result ≡ name_left_at s }
 {
-    let node = s.node;
     let long = fit(s.length);
-    let mut after = s;
-    if node == 59 {
-        return report_kept::arrive(s, 7);
+    match s.node {
+        59 => report_kept::arrive(s, 7),
+        60 => report_kept::arrive(
+            ReaderState {
+                author: long,
+                identifiers: 0,
+                domain: 0,
+                selector: 0,
+                outcome: 0,
+                ..s
+            },
+            23,
+        ),
+        61 => report_kept::arrive(ReaderState { domain: long, ..s }, 26),
+        62 => report_kept::arrive(
+            ReaderState {
+                selector: long,
+                ..s
+            },
+            27,
+        ),
+        _ => report_kept::arrive(ReaderState { domain: long, ..s }, 30),
     }
-    if node == 60 {
-        after.author = long;
-        after.identifiers = 0;
-        after.domain = 0;
-        after.selector = 0;
-        after.outcome = 0;
-        return report_kept::arrive(after, 23);
-    }
-    if node == 61 {
-        after.domain = long;
-        return report_kept::arrive(after, 26);
-    }
-    if node == 62 {
-        after.selector = long;
-        return report_kept::arrive(after, 27);
-    }
-    after.domain = long;
-    report_kept::arrive(after, 30)
 }
 
 // Where the open name stands in the row, of fewer than 16 identifiers.
 pub fn find_name(node: u8, identifiers: u8) -> u16
     ensures { NamePlace node identifiers result }
 {
-    if node == 60 {
-        return 16;
+    let first = 272 + 510 * identifiers.min(15) as u16;
+    match node {
+        60 => 16,
+        62 => first + 253,
+        _ => first,
     }
-    if 16 <= identifiers {
-        return 0;
-    }
-    let first = 272 + 510 * identifiers as u16;
-    if node == 62 {
-        return first + 253;
-    }
-    first
 }
 
-// An octet of a name.
-pub fn turn_name(s: ReaderState, x: u8) -> Turn
+// An octet of a name; the published domain is not kept.
+pub fn turn_name(s: ReaderState, x: u8) -> Result<Turn, Refusal>
     ensures { TurnsName s x result }
 {
-    let node = s.node;
-    let length = s.length;
-    let turn = report_leaves::step_name(length, s.label, x);
-    let says = turn.says;
-    let place = find_name(node, s.identifiers);
-    if says == ENDED {
-        return report_kept::say(GOES_ON, leave_name(s));
-    }
-    if says != GOES_ON {
-        return report_kept::say(says, s);
-    }
-    let mut after = s;
-    after.length = turn.length;
-    after.label = turn.label;
-    if node == 59 {
-        return report_kept::say(GOES_ON, after);
-    }
-    if 253 <= length {
-        return report_kept::say(OUTSIDE, s);
-    }
-    Turn {
-        says: GOES_ON,
-        state: after,
-        written: Written {
-            at: place + length,
-            count: 1,
-            first: x,
-            second: 0,
-            third: 0,
-            fourth: 0,
-        },
+    match report_leaves::step_name(s.length, s.label, x)? {
+        Leaf::Ended => Ok(report_kept::go_on(leave_name(s))),
+        Leaf::More(name) => {
+            let after = ReaderState {
+                length: name.length,
+                label: name.label,
+                ..s
+            };
+            if s.node == 59 {
+                return Ok(report_kept::go_on(after));
+            }
+            let place = find_name(s.node, s.identifiers) + s.length;
+            Ok(Turn {
+                gives: false,
+                state: after,
+                written: Written::One(place, x),
+            })
+        }
     }
 }

@@ -5,26 +5,29 @@ use mathlib.Core.Logic.{◌⊎◌, inl, inr}
 use mathlib.Core.Bool.{Bool, true, false, false≢true}
 use Prim.Native.Nat.{ℕ, zero, suc, ◌+◌, ◌*◌, ◌-◌, ◌/◌, ◌%◌, ◌≤◌, ◌<◌}
 use native.Mathlib.Omega.{arith}
-use lib.Dec.{eqb, ltb}
+use lib.Dec.{eqb}
 use lib.ListN.{length, length-append, get_or}
 use borrow.Author.Tests.{eq-eqb, ne_eqb, eqb-true, eqb-false, le-leb, lt-leb}
-use Rattle.std.specs.Prelude.{if◌then◌else◌}
+use Rattle.std.specs.Prelude.{if◌then◌else◌, Result, Ok, Err}
+use Rattle.report_steps.specs.declared.Refusal.{Refusal}
+use Rattle.report_steps.specs.code.Steps.{refusal_number}
+use Rattle.report_kept.specs.declared.Written.{Written}
+use Rattle.report_source.specs.declared.OpenNumber.{OpenNumber}
 use Rattle.octets.specs.Octets.{Octets, is_set, between}
-use Rattle.parsing.specs.Reads.{Reads, done, next, ◌>>=◌, octet_where}
-use Rattle.parsing_steps.specs.Stepping.{Step, on, refused, step_of, takes, then_on}
+use Rattle.parsing.specs.Reads.{Reads, ◌>>=◌, octet_where}
+use Rattle.parsing_steps.specs.Stepping.{on, refused, step_of, takes, then_on}
 use Rattle.parsing_steps.proofs.StepLaws.{step_bind, done_on}
 use Rattle.report_form.specs.ReportForm.{Said, mapped, group_octets}
 use Rattle.report_form.specs.code.ReportReading.{Address, grouped, last_number, is_last, source_of, digits_from}
-use Rattle.report_states.specs.Chain.{Open, with_source}
+use Rattle.report_states.specs.Chain.{with_source}
 use Rattle.report_states.specs.Standing.{from, nodes, node_of, from_literal, l_source_end, part_from, address_left, disposition_numbered}
 use Rattle.report_address.specs.code.Addresses.{kind_of, address_of}
 use Rattle.report_source.specs.code.Sources.{is_sound, no_octet, source_left, five_zeros, source_turn, Sources, number_told, Turns}
 use Rattle.report_source.specs.declared.SourceTurn.{SourceTurn}
 use Rattle.report_origin.specs.code.Origins.{octet_put, group_put, source_ended, source_next, TurnsSource}
 use Rattle.report_kept.specs.declared.ReaderState.{ReaderState}
-use Rattle.report_kept.specs.declared.Turn.{Turn}
-use Rattle.report_kept.specs.Layout.{name_in, base, listed, singles, pairs, source_in}
-use Rattle.report_kept.specs.code.View.{known_of, before_in, source_from, left_in, said_in, laid, laid_at, write, turn_step, Turned, within_identifier, is_broken, arrived, on_source, unwritten, plain}
+use Rattle.report_kept.specs.Layout.{base, singles, pairs, source_in}
+use Rattle.report_kept.specs.code.View.{known_of, before_in, source_from, left_in, laid_at, write, turn_step, Turned, within_identifier, is_broken, arrived, on_source, plain}
 use Rattle.report_kept.proofs.ArriveLaws.{left_source, lands}
 use Rattle.report_kept.proofs.WriteLaws.{name_back, listed_back, single_more, pair_more}
 
@@ -79,8 +82,8 @@ module _ (s : ReaderState) (is : s.node ≡ 64) where
 
   -- a digit more
   pub origin_more : (five : Bool) (x kind digits ten sixteen value : ℕ) → Sources s.kind s.numbers five s.digits s.ten s.sixteen x 0 kind digits ten sixteen value → eqb kind 1 ≡ eqb s.kind 1
-      → Turned s five x (plain 0 (on_source kind s.numbers digits ten sixteen s))
-  unfolding plain write unwritten laid_at laid turn_step source_turn then_on source_from known_of with_source on_source before_in
+      → Turned s five x (Ok (plain false (on_source kind s.numbers digits ten sixteen s)))
+  unfolding plain write turn_step source_turn then_on source_from known_of with_source on_source before_in
   origin_more five x kind digits ten sixteen value e same row l f =
       source_step x row
       ∙ ap (λ t. then_on t (behind row)) (e (before row) (before_length s.kind s.numbers row) (f is))
@@ -88,13 +91,17 @@ module _ (s : ReaderState) (is : s.node ≡ 64) where
       ∙ ap on (sym (left_source (on_source kind s.numbers digits ten sixteen s) row is))
 
   -- another octet
-  pub origin_refused : (five : Bool) (x says kind digits ten sixteen value : ℕ) → Sources s.kind s.numbers five s.digits s.ten s.sixteen x says kind digits ten sixteen value
-      → (says ≡ 0 → ⊥) → (says ≡ 1 → ⊥) → (says ≡ 2 → ⊥) → Turned s five x (plain says s)
-  unfolding plain write unwritten laid_at laid turn_step source_turn then_on
-  origin_refused five x says kind digits ten sixteen value e p q r row l f =
+  pub origin_refused : (five : Bool) (x : ℕ) (r : Refusal) → Sources s.kind s.numbers five s.digits s.ten s.sixteen x (refusal_number r) 0 0 0 0 0 → Turned s five x (Err r)
+  unfolding turn_step source_turn then_on refusal_number
+  origin_refused five x r e row l f =
       source_step x row
       ∙ ap (λ t. then_on t (behind row)) (e (before row) (before_length s.kind s.numbers row) (f is))
-      ∙ rw (ne_eqb says 0 p, ne_eqb says 1 q, ne_eqb says 2 r) refl
+      ∙ go r
+    where
+      go : (r : Refusal) → then_on (source_turn (refusal_number r) 0 0 0 0 0 (source_of (address_of s.kind s.digits s.ten s.sixteen (before row))) (before row)) (behind row) ≡ refused (refusal_number r)
+      go Refusal.Outside = refl
+      go Refusal.Over = refl
+      go Refusal.Early = refl
 
 -- ------------------------------------------------------------------ what is written
 
@@ -148,7 +155,7 @@ module _ (s : ReaderState) (is : s.node ≡ 64) where
       go false (suc n) q = absurd (omega (arith, q))
 
   pub origin_dot : (five : Bool) (x digits ten sixteen value : ℕ) → Sources s.kind s.numbers five s.digits s.ten s.sixteen x 2 1 digits ten sixteen value → s.numbers < 3 → (s.kind ≡ 1) ⊎ (s.numbers ≡ 0)
-      → Turned s five x (record { says = 0; state = on_source 1 (s.numbers + 1) 0 0 0 s; written = record { at = 12 + s.numbers; count = 1; first = value; second = 0; third = 0; fourth = 0 } })
+      → Turned s five x (Ok (record { gives = false; state = on_source 1 (s.numbers + 1) 0 0 0 s; written = Written.One (12 + s.numbers) value }))
   unfolding write turn_step source_turn then_on source_from before_in on_source
   origin_dot five x digits ten sixteen value e few one row l f =
       let to = 12 + s.numbers in
@@ -167,7 +174,7 @@ module _ (s : ReaderState) (is : s.node ≡ 64) where
   before_grouped kind n row e = rw (ne_eqb kind 1 e)
 
   pub origin_colon : (five : Bool) (x digits ten sixteen value a b : ℕ) → Sources s.kind s.numbers five s.digits s.ten s.sixteen x 2 2 digits ten sixteen value → s.numbers < 7 → (s.kind ≡ 1 → ⊥) → a * 256 + b ≡ value
-      → Turned s five x (record { says = 0; state = on_source 2 (s.numbers + 1) 0 0 0 s; written = record { at = 2 * s.numbers; count = 2; first = a; second = b; third = 0; fourth = 0 } })
+      → Turned s five x (Ok (record { gives = false; state = on_source 2 (s.numbers + 1) 0 0 0 s; written = Written.Two (2 * s.numbers) a b }))
   unfolding write turn_step source_turn then_on source_from before_in on_source
   origin_colon five x digits ten sixteen value a b e few one q row l f =
       let to = 2 * s.numbers in
@@ -222,7 +229,7 @@ module _ (s : ReaderState) (is : s.node ≡ 64) where
       ∙ ap on (sym (lands 15 s (laid_at to ws row) (calm_15 s.identifiers) (λ q. omega (arith, q))))
 
   pub origin_dotted : (five : Bool) (x kind digits ten sixteen value : ℕ) → Sources s.kind s.numbers five s.digits s.ten s.sixteen x 1 kind digits ten sixteen value → s.kind ≡ 1 → s.numbers ≡ 3
-      → Turned s five x (record { says = 0; state = arrived 15 s; written = record { at = 15; count = 1; first = s.ten; second = 0; third = 0; fourth = 0 } })
+      → Turned s five x (Ok (record { gives = false; state = arrived 15 s; written = Written.One (15) s.ten }))
   unfolding write turn_step source_in source_of address_of kind_of before_in
   origin_dotted five x kind digits ten sixteen value e one three row l f =
       let more = single_more 3 s.ten row (omega (arith, l)) in
@@ -230,7 +237,7 @@ module _ (s : ReaderState) (is : s.node ≡ 64) where
       (rw (eq-eqb s.kind 1 one, three, one) (ap (λ z. mapped ++ z) more ∙ sym (append_assoc mapped (singles 3 row) (s.ten ∷ []))))
 
   pub origin_grouped : (five : Bool) (x kind digits ten sixteen value a b : ℕ) → Sources s.kind s.numbers five s.digits s.ten s.sixteen x 1 kind digits ten sixteen value → kind_of s.kind ≡ grouped → (s.kind ≡ 1 → ⊥) → s.numbers ≡ 7
-      → a * 256 + b ≡ s.sixteen → Turned s five x (record { says = 0; state = arrived 15 s; written = record { at = 14; count = 2; first = a; second = b; third = 0; fourth = 0 } })
+      → a * 256 + b ≡ s.sixteen → Turned s five x (Ok (record { gives = false; state = arrived 15 s; written = Written.Two (14) a b }))
   unfolding write turn_step source_in source_of address_of before_in
   origin_grouped five x kind digits ten sixteen value a b e groups other seven q row l f =
       let more = pair_more 7 a b row (omega (arith, l)) in
@@ -254,43 +261,44 @@ module _ (s : ReaderState) where
   unfolding source_ended
   ended_group e = rw (ne_eqb s.kind 1 e)
 
-  pub next_none : (kind v : ℕ) → 7 ≤ s.numbers → plain 20 s ≡ source_next s kind v
+  pub next_none : (kind v : ℕ) → 7 ≤ s.numbers → Err Refusal.Outside ≡ source_next s kind v
   unfolding source_next
   next_none kind v h = rw (le-leb 7 s.numbers h)
 
-  pub next_octet : (kind v : ℕ) → s.numbers < 7 → kind ≡ 1 → octet_put (on_source 1 (s.numbers + 1) 0 0 0 s) (12 + s.numbers) v ≡ source_next s kind v
+  pub next_octet : (kind v : ℕ) → s.numbers < 7 → kind ≡ 1 → Ok (octet_put (on_source 1 (s.numbers + 1) 0 0 0 s) (12 + s.numbers) v) ≡ source_next s kind v
   unfolding source_next
   next_octet kind v h e = rw (lt-leb 7 s.numbers h, eq-eqb kind 1 e)
 
-  pub next_group : (kind v : ℕ) → s.numbers < 7 → (kind ≡ 1 → ⊥) → group_put (on_source 2 (s.numbers + 1) 0 0 0 s) (2 * s.numbers) v ≡ source_next s kind v
+  pub next_group : (kind v : ℕ) → s.numbers < 7 → (kind ≡ 1 → ⊥) → Ok (group_put (on_source 2 (s.numbers + 1) 0 0 0 s) (2 * s.numbers) v) ≡ source_next s kind v
   unfolding source_next
   next_group kind v h e = rw (lt-leb 7 s.numbers h, ne_eqb kind 1 e)
 
-module _ (s : ReaderState) (five : Bool) (x : ℕ) (r : SourceTurn) (t : Turns s.kind s.numbers five s.digits s.ten s.sixteen x r) where
-  abbrev At : ℕ → Type 0
-  At n = Sources s.kind s.numbers five s.digits s.ten s.sixteen x n r.kind r.digits r.ten r.sixteen r.value
+module _ (s : ReaderState) (five : Bool) (x : ℕ) where
+  abbrev Says : Result SourceTurn Refusal → Type 0
+  Says r = Turns s.kind s.numbers five s.digits s.ten s.sixteen x r
 
-  pub source_more : r.says ≡ 0 → TurnsSource s five x (plain 0 (on_source r.kind s.numbers r.digits r.ten r.sixteen s))
-  source_more q is = origin_more s is five x r.kind r.digits r.ten r.sixteen r.value (subst At q t.0) (t.2 q)
+  pub source_more : (n : OpenNumber) → Says (Ok (SourceTurn.More n)) → TurnsSource s five x (Ok (plain false (on_source n.kind s.numbers n.digits n.ten n.sixteen s)))
+  unfolding Turns
+  source_more n t is = origin_more s is five x n.kind n.digits n.ten n.sixteen 0 t.0 t.1
 
-  pub source_refused : (r.says ≡ 0 → ⊥) → (r.says ≡ 1 → ⊥) → (r.says ≡ 2 → ⊥) → TurnsSource s five x (plain r.says s)
-  source_refused a b c is = origin_refused s is five x r.says r.kind r.digits r.ten r.sixteen r.value t.0 a b c
+  pub source_refused : (r : Refusal) → Says (Err r) → TurnsSource s five x (Err r)
+  unfolding Turns
+  source_refused r t is = origin_refused s is five x r t
 
-  pub source_over : r.says ≡ 1 → TurnsSource s five x (source_ended s)
-  unfolding octet_put group_put
-  source_over q is =
-      let (last, fits) = t.1 q in
+  pub source_over : Says (Ok SourceTurn.Ended) → TurnsSource s five x (Ok (source_ended s))
+  unfolding octet_put group_put Turns
+  source_over (said, last, fits) is =
       elim (last_by s.kind s.numbers last) [
-        | inl (one, three) ↦ subst (Turned s five x) (ap (λ v. record { says = 0; state = arrived 15 s; written = record { at = 15; count = 1; first = v; second = 0; third = 0; fourth = 0 } }) (sym (small_octet s.ten (fits one))) ∙ ended_octet s one) (origin_dotted s is five x r.kind r.digits r.ten r.sixteen r.value (subst At q t.0) one three)
-        | inr (groups, other, seven) ↦ subst (Turned s five x) (ended_group s other) (origin_grouped s is five x r.kind r.digits r.ten r.sixteen r.value (s.sixteen / 256) (s.sixteen % 256) (subst At q t.0) groups other seven (by_256 s.sixteen))
+        | inl (one, three) ↦ subst (Turned s five x) (ap (λ v. Ok (record { gives = false; state = arrived 15 s; written = Written.One 15 v })) (sym (small_octet s.ten (fits one))) ∙ ap Ok (ended_octet s one)) (origin_dotted s is five x 0 0 0 0 0 said one three)
+        | inr (groups, other, seven) ↦ subst (Turned s five x) (ap Ok (ended_group s other)) (origin_grouped s is five x 0 0 0 0 0 (s.sixteen / 256) (s.sixteen % 256) said groups other seven (by_256 s.sixteen))
       ]
 
-  pub source_number : r.says ≡ 2 → TurnsSource s five x (source_next s r.kind r.value)
-  unfolding octet_put group_put number_told
-  source_number q is =
-      elim (t.3 q) [
-        | inl (dot, value, fits, few, before) ↦ subst (Turned s five x) (ap (λ v. record { says = 0; state = on_source 1 (s.numbers + 1) 0 0 0 s; written = record { at = 12 + s.numbers; count = 1; first = v; second = 0; third = 0; fourth = 0 } }) (sym (small_octet r.value (omega (arith, value, fits)))) ∙ next_octet s r.kind r.value (omega (arith, few)) dot)
-            (origin_dot s is five x r.digits r.ten r.sixteen r.value (subst (λ k. Sources s.kind s.numbers five s.digits s.ten s.sixteen x 2 k r.digits r.ten r.sixteen r.value) dot (subst At q t.0)) few before)
-        | inr (colon, value, few, other) ↦ subst (Turned s five x) (next_group s r.kind r.value few (λ e. omega (arith, e, colon)))
-            (origin_colon s is five x r.digits r.ten r.sixteen r.value (r.value / 256) (r.value % 256) (subst (λ k. Sources s.kind s.numbers five s.digits s.ten s.sixteen x 2 k r.digits r.ten r.sixteen r.value) colon (subst At q t.0)) few other (by_256 r.value))
+  pub source_number : (kind value : ℕ) → Says (Ok (SourceTurn.Number kind value)) → TurnsSource s five x (source_next s kind value)
+  unfolding octet_put group_put number_told Turns
+  source_number kind value (said, told) is =
+      elim told [
+        | inl (dot, v, fits, few, before) ↦ subst (Turned s five x) (ap (λ v. Ok (record { gives = false; state = on_source 1 (s.numbers + 1) 0 0 0 s; written = Written.One (12 + s.numbers) v })) (sym (small_octet value (omega (arith, v, fits)))) ∙ next_octet s kind value (omega (arith, few)) dot)
+            (origin_dot s is five x 0 0 0 value (subst (λ k. Sources s.kind s.numbers five s.digits s.ten s.sixteen x 2 k 0 0 0 value) dot said) few before)
+        | inr (colon, v, few, other) ↦ subst (Turned s five x) (next_group s kind value few (λ e. omega (arith, e, colon)))
+            (origin_colon s is five x 0 0 0 value (value / 256) (value % 256) (subst (λ k. Sources s.kind s.numbers five s.digits s.ten s.sixteen x 2 k 0 0 0 value) colon said) few other (by_256 value))
       ]

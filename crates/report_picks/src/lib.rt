@@ -5,49 +5,35 @@ ghost use Rattle.std.specs.Prelude.{◌≡◌};
 ghost use Rattle.report_choices.specs.code.Choices.{is_single, BeginsWord, TurnsWord};
 
 use report_kept::{ReaderState, Turn};
-
-const OUTSIDE: u8 = 20;
-
-const GOES_ON: u8 = 0;
-
-const ENDED: u8 = 1;
-
-const NO_WORD: u8 = 255;
+use report_steps::{Leaf, Refusal};
 
 // Whether a node's words have one octet.
+#[tactic(auto, unfolding(report_choices::specs::code::Choices::is_single, octets::specs::Octets::between))]
 fn has_single(node: u8) -> bool
     ensures { result ≡ is_single node }
 {
-    if node < 42 {
-        return false;
-    }
-    node <= 44
+    42 <= node && node <= 44
 }
 
 // The first octet of a word.
-fn begin_word(s: ReaderState, x: u8) -> Turn
+fn begin_word(s: ReaderState, x: u8) -> Result<Turn, Refusal>
     ensures { BeginsWord s x result }
 {
     let node = s.node;
-    let k = report_words::pick_word(
-        report_choices::find_first(node),
-        report_choices::count_words(node),
-        x,
-    );
-    if k == NO_WORD {
-        return report_kept::say(OUTSIDE, s);
+    let first = report_choices::find_first(node);
+    match report_words::pick_word(first, report_choices::count_words(node), x) {
+        None => Err(Refusal::Outside),
+        Some(k) if has_single(node) => Ok(report_choices::leave_word(s, k)),
+        Some(k) => Ok(report_kept::go_on(ReaderState {
+            which: k + 1,
+            at: 1,
+            ..s
+        })),
     }
-    if has_single(node) {
-        return report_choices::leave_word(s, k);
-    }
-    let mut after = s;
-    after.which = k + 1;
-    after.at = 1;
-    report_kept::say(GOES_ON, after)
 }
 
 // An octet of a word.
-pub fn turn_word(s: ReaderState, x: u8) -> Turn
+pub fn turn_word(s: ReaderState, x: u8) -> Result<Turn, Refusal>
     ensures { TurnsWord s x result }
 {
     let node = s.node;
@@ -56,21 +42,12 @@ pub fn turn_word(s: ReaderState, x: u8) -> Turn
     if which == 0 {
         return begin_word(s, x);
     }
-    if report_choices::count_words(node) < which {
-        return report_kept::say(OUTSIDE, s);
-    }
-    if 116 <= at {
-        return report_kept::say(OUTSIDE, s);
+    if report_choices::count_words(node) < which || 116 <= at {
+        return Err(Refusal::Outside);
     }
     let k = which - 1;
-    let says = report_words::step_piece(report_choices::find_first(node) + k, at, x);
-    if says == ENDED {
-        return report_choices::leave_word(s, k);
+    match report_words::step_piece(report_choices::find_first(node) + k, at, x)? {
+        Leaf::More(()) => Ok(report_kept::go_on(ReaderState { at: at + 1, ..s })),
+        Leaf::Ended => Ok(report_choices::leave_word(s, k)),
     }
-    if says == GOES_ON {
-        let mut after = s;
-        after.at = at + 1;
-        return report_kept::say(GOES_ON, after);
-    }
-    report_kept::say(says, s)
 }

@@ -5,9 +5,8 @@ ghost use Rattle.std.specs.Prelude.{◌≡◌};
 ghost use Rattle.report_reader.specs.code.Reading.{TakesSome, ReadsPart, Begins, Ends};
 
 use report_kept::ReaderState;
+use report_steps::Refusal;
 use report_words::{BEGINS, TEXTS};
-
-const EARLY: u8 = 22;
 
 const LAST: u8 = 65;
 
@@ -129,5 +128,5 @@ pub fn end(s: ReaderState) -> ReaderState
     if LAST <= s.node {
         return s;
     }
-    report_taken::stop(s, EARLY)
+    report_taken::stop(s, Refusal::Early)
 }

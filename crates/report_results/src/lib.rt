@@ -31,14 +31,15 @@ fn put_of_kind(dkim: bool, body: &[u8], at: usize, out: &mut [u8]) -> usize
     let outcome = records_fields::octet_at(body, 1, 255);
     if dkim {
         if kind == 1 {
-            return report_record::put_dkim(domain_in(body), selector_in(body), outcome, at, out);
+            report_record::put_dkim(domain_in(body), selector_in(body), outcome, at, out)
+        } else {
+            at
         }
-        return at;
+    } else if kind == 0 {
+        report_record::put_spf(domain_in(body), outcome, at, out)
+    } else {
+        at
     }
-    if kind == 0 {
-        return report_record::put_spf(domain_in(body), outcome, at, out);
-    }
-    at
 }
 
 // The elements of a set's identifiers that are of DKIM, or of SPF.
@@ -47,11 +48,9 @@ fn put_each(dkim: bool, set: &[u8], at: usize, out: &mut [u8]) -> usize
 {
     let mut t = set;
     let mut end = at;
-    while 0 < t.len() {
-        let next = put_of_kind(dkim, rows_named::front_body(t), end, out);
-        end = next;
-        let rest = records_fields::after_record(t);
-        t = rest;
+    while !t.is_empty() {
+        end = put_of_kind(dkim, rows_named::front_body(t), end, out);
+        t = records_fields::after_record(t);
     }
     end
 }

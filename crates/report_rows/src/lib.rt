@@ -10,7 +10,7 @@ ghost use Rattle.report_rows.specs.code.Lines.{author_at, set_at, line_of};
 use rows::Seen;
 
 // The author domain of a row.
-pub fn author_of<'a>(row: &'a [u8], authors: &'a [u8]) -> &'a [u8]
+pub fn author_of<'a>(row: &[u8], authors: &'a [u8]) -> &'a [u8]
     ensures { result.now ≡ author_at authors.now (row_of row.now).seen.author }
 {
     let number = rows_gather::number_at(row, 20);
@@ -18,7 +18,7 @@ pub fn author_of<'a>(row: &'a [u8], authors: &'a [u8]) -> &'a [u8]
 }
 
 // The set of identifiers of a row.
-pub fn set_of<'a>(row: &'a [u8], sets: &'a [u8]) -> &'a [u8]
+pub fn set_of<'a>(row: &[u8], sets: &'a [u8]) -> &'a [u8]
     ensures { result.now ≡ set_at sets.now (row_of row.now).seen.set }
 {
     let number = rows_gather::number_at(row, 24);
@@ -48,13 +48,7 @@ fn put_row(row: &[u8], at: usize, out: &mut [u8]) -> usize
 }
 
 // The element `record`.
-pub fn put_record<'a>(
-    row: &'a [u8],
-    authors: &'a [u8],
-    sets: &'a [u8],
-    at: usize,
-    out: &mut [u8],
-) -> usize
+pub fn put_record(row: &[u8], authors: &[u8], sets: &[u8], at: usize, out: &mut [u8]) -> usize
     ensures { Puts (record_element (line_of (record { authors = authors.now; sets = sets.now }) (row_of row.now))) at out.old result out.new × (length (row_element (row_of row.now)) ≤ 204) }
 {
     let first = octets_pieces::put(b"<record>", at, out);

@@ -6,14 +6,7 @@ ghost use Rattle.report_taken.specs.code.Taking.{largest};
 ghost use Rattle.report_runs.specs.code.Runs.{far, onward, Matches, OpenPiece, LeadsOn, LeavesPiece, EndsPiece, RunsPiece, RunsName, EndsName, Advances, AdvancesBy};
 
 use report_kept::{ReaderState, Turn};
-
-const GOES_ON: u8 = 0;
-
-const ENDED: u8 = 1;
-
-const OUTSIDE: u8 = 20;
-
-const NO_PIECE: u8 = 255;
+use report_steps::{Leaf, Refusal};
 
 // Behind this many octets they are taken one by one, since a count has 64 bits.
 const FAR: u64 = 18446744073709551000;
@@ -37,13 +30,14 @@ struct NameRun {
 fn move_on(s: ReaderState, taken: u64, at: u8, length: u16, label: u8) -> ReaderState
     ensures { result ≡ onward taken at length label s }
 {
-    let mut after = s;
-    after.taken = taken;
-    after.refused = 0;
-    after.at = at;
-    after.length = length;
-    after.label = label;
-    after
+    ReaderState {
+        taken,
+        refused: 0,
+        at,
+        length,
+        label,
+        ..s
+    }
 }
 
 // How many octets go on within a text behind `at` octets; its last octet does not.
@@ -53,42 +47,33 @@ fn count_matching<'a>(text: &'a [u8], at: u8, rest: &'a [u8]) -> u8
     if 116 <= at {
         return 0;
     }
-    let mut k = 0;
-    while k < 116 {
+    for k in 0..116 {
         let i = k as usize;
         if rest.len() <= i {
             return k;
         }
-        if report_words::step_behind(text, at + k, rest[i]) != GOES_ON {
+        let Ok(Leaf::More(())) = report_words::step_behind(text, at + k, rest[i]) else {
             return k;
-        }
-        k = k + 1;
+        };
     }
-    k
+    116
 }
 
 // The number of the literal or word that is open.
-fn find_open(s: ReaderState) -> u8
+fn find_open(s: ReaderState) -> Option<u8>
     ensures { OpenPiece s result }
 {
     let node = s.node;
     let which = s.which;
     if report_step::cannot_be(node, s.identifiers) {
-        return NO_PIECE;
+        None
+    } else if node < 36 {
+        Some(node)
+    } else if node < 52 && which != 0 && which <= report_choices::count_words(node) {
+        Some(report_choices::find_first(node) + (which - 1))
+    } else {
+        None
     }
-    if node < 36 {
-        return node;
-    }
-    if 52 <= node {
-        return NO_PIECE;
-    }
-    if which == 0 {
-        return NO_PIECE;
-    }
-    if report_choices::count_words(node) < which {
-        return NO_PIECE;
-    }
-    report_choices::find_first(node) + (which - 1)
 }
 
 // Behind a literal that only leads on: it hands out no row, writes nothing and sets no flag.
@@ -96,28 +81,24 @@ fn lead_on(s: ReaderState) -> Turn
     ensures { LeadsOn s result }
 {
     let next = report_literals::find_next(s.node, s.disposition, s.dkim, s.identifiers, s.left);
-    report_kept::say(GOES_ON, report_kept::arrive(s, next))
+    report_kept::go_on(report_kept::arrive(s, next))
 }
 
 // Behind the literal or word that is open; those before and within an identifier are the ones that come often.
-fn leave_piece(s: ReaderState) -> Turn
+fn leave_piece(s: ReaderState) -> Result<Turn, Refusal>
     ensures { LeavesPiece s result }
 {
     let node = s.node;
     let which = s.which;
-    if node < 22 {
-        return report_literals::leave_literal(s);
+    if 22 <= node && node < 28 {
+        Ok(lead_on(s))
+    } else if node < 36 {
+        report_literals::leave_literal(s)
+    } else if which == 0 {
+        Err(Refusal::Outside)
+    } else {
+        Ok(report_choices::leave_word(s, which - 1))
     }
-    if node < 28 {
-        return lead_on(s);
-    }
-    if node < 36 {
-        return report_literals::leave_literal(s);
-    }
-    if which == 0 {
-        return report_kept::say(OUTSIDE, s);
-    }
-    report_choices::leave_word(s, which - 1)
 }
 
 // A run within a text, and the octet behind it, where that ends the text and no row is handed out.
@@ -130,11 +111,13 @@ fn end_piece(text: &[u8], run: Run, rest: &[u8], row: &mut [u8]) -> Run
     if rest.len() <= used {
         return run;
     }
-    if report_words::step_behind(text, s.at, rest[used]) != ENDED {
+    let Ok(Leaf::Ended) = report_words::step_behind(text, s.at, rest[used]) else {
         return run;
-    }
-    let turn = leave_piece(s);
-    if turn.says != GOES_ON {
+    };
+    let Ok(turn) = leave_piece(s) else {
+        return run;
+    };
+    if turn.gives {
         return run;
     }
     report_store::put(row, turn.written);
@@ -155,11 +138,10 @@ fn run_piece<'a>(
     requires { s.taken < far }
     ensures { RunsPiece texts.now begins.now s rest.now row.old result row.new }
 {
-    let number = find_open(s);
     let at = s.at;
-    if number == NO_PIECE {
+    let Some(number) = find_open(s) else {
         return Run { used: 0, state: s };
-    }
+    };
     let text = octets_pieces::find_piece(texts, begins, number);
     let k = count_matching(text, at, rest);
     let run = Run {
@@ -178,21 +160,19 @@ fn copy_name(length: u16, label: u8, place: u16, rest: &[u8], row: &mut [u8]) ->
         length,
         label,
     };
-    while run.used < 253 {
-        let k = run.used;
+    for k in 0..253 {
         if rest.len() <= k {
             return run;
         }
         let x = rest[k];
-        let turn = report_leaves::step_name(run.length, run.label, x);
-        if turn.says != GOES_ON {
+        let Ok(Leaf::More(name)) = report_leaves::step_name(run.length, run.label, x) else {
             return run;
-        }
+        };
         report_store::put_one(row, place as usize + run.length as usize, x);
         run = NameRun {
             used: k + 1,
-            length: turn.length,
-            label: turn.label,
+            length: name.length,
+            label: name.label,
         };
     }
     run
@@ -208,10 +188,9 @@ fn end_name(run: Run, rest: &[u8]) -> Run
     if rest.len() <= used {
         return run;
     }
-    let turn = report_leaves::step_name(s.length, s.label, rest[used]);
-    if turn.says != ENDED {
+    let Ok(Leaf::Ended) = report_leaves::step_name(s.length, s.label, rest[used]) else {
         return run;
-    }
+    };
     Run {
         used: used + 1,
         state: report_taken::count_on(report_names::leave_name(s), s.taken + 1),
@@ -225,13 +204,7 @@ fn run_name(s: ReaderState, rest: &[u8], row: &mut [u8]) -> Run
 {
     let node = s.node;
     let identifiers = s.identifiers;
-    if node < 60 {
-        return Run { used: 0, state: s };
-    }
-    if 64 <= node {
-        return Run { used: 0, state: s };
-    }
-    if report_step::cannot_be(node, identifiers) {
+    if node < 60 || 64 <= node || report_step::cannot_be(node, identifiers) {
         return Run { used: 0, state: s };
     }
     let place = report_names::find_name(node, identifiers);
@@ -254,14 +227,11 @@ pub fn advance<'a>(
 ) -> Run
     ensures { AdvancesBy texts.now begins.now s rest.now row.old result row.new }
 {
-    if s.refused != 0 {
-        return Run { used: 0, state: s };
+    if s.refused != 0 || FAR <= s.taken {
+        Run { used: 0, state: s }
+    } else if s.node < 52 {
+        run_piece(texts, begins, s, rest, row)
+    } else {
+        run_name(s, rest, row)
     }
-    if FAR <= s.taken {
-        return Run { used: 0, state: s };
-    }
-    if s.node < 52 {
-        return run_piece(texts, begins, s, rest, row);
-    }
-    run_name(s, rest, row)
 }

@@ -8,7 +8,10 @@ use native.Mathlib.Omega.{arith}
 use lib.Dec.{eqb, leb, ltb}
 use lib.ListN.{length, length-append}
 use borrow.Author.Tests.{lt-ltb, le-ltb, le-leb, lt-leb, eq-eqb, ne_eqb, leb-true, ltb-true, eqb-true, eqb-false}
-use Rattle.std.specs.Prelude.{if◌then◌else◌}
+use Rattle.std.specs.Prelude.{if◌then◌else◌, Ok, Err}
+use Rattle.report_steps.specs.declared.Refusal.{Refusal}
+use Rattle.report_steps.specs.code.Steps.{refusal_number}
+use Rattle.report_source.specs.declared.SourceTurn.{SourceTurn}
 use Rattle.octets.specs.Octets.{is_digit, between}
 use Rattle.parsing_steps.specs.Stepping.{on, step_of}
 use Rattle.parsing_steps.proofs.StepLaws.{where_no}
@@ -17,7 +20,7 @@ use Rattle.report_states.specs.Standing.{address_left}
 use Rattle.report_address.specs.code.Addresses.{kind_of, address_of, only_zero_in, dotted_on, grouped_on, ends_in}
 use Rattle.report_address.proofs.AddressTests.{dotted_is, grouped_is, ends_is}
 use Rattle.report_address.proofs.AddressSteps.{refused_full, refused_digit, ended_less, next_dot, next_colon, digit_more}
-use Rattle.report_source.specs.code.Sources.{limit, fits_kind, is_sound, no_octet, source_left, five_zeros, source_turn, refused_turn, grown, number_ended, Sources, number_told, Turns}
+use Rattle.report_source.specs.code.Sources.{limit, fits_kind, is_sound, no_octet, source_left, five_zeros, source_turn, grown, number_ended, Sources, number_told, Turns}
 
 both : (a b : Bool) → (a && b) ≡ true → (a ≡ true) × (b ≡ true)
 both true b e = (refl, e)
@@ -311,21 +314,21 @@ module _ (kind numbers digits ten sixteen : ℕ) where
   unfolding is_sound
   open_by below q e f = rw (e, sym q, lt-ltb sixteen below f) refl
 
-pub ended_at_less : (ten sixteen x : ℕ) → x ≡ 60 → record { says = 1; kind = 0; digits = 0; ten = 0; sixteen = 0; value = 0 } ≡ number_ended ten sixteen x
+pub ended_at_less : (ten sixteen x : ℕ) → x ≡ 60 → SourceTurn.Ended ≡ number_ended ten sixteen x
 unfolding number_ended
 ended_at_less ten sixteen x e = rw (eq-eqb x 60 e) refl
 
-pub ended_at_dot : (ten sixteen x : ℕ) → (x ≡ 60 → ⊥) → x ≡ 46 → record { says = 2; kind = 1; digits = 0; ten = 0; sixteen = 0; value = ten } ≡ number_ended ten sixteen x
+pub ended_at_dot : (ten sixteen x : ℕ) → (x ≡ 60 → ⊥) → x ≡ 46 → SourceTurn.Number 1 ten ≡ number_ended ten sixteen x
 unfolding number_ended
 ended_at_dot ten sixteen x e f = rw (ne_eqb x 60 e, eq-eqb x 46 f) refl
 
-pub ended_at_colon : (ten sixteen x : ℕ) → (x ≡ 60 → ⊥) → (x ≡ 46 → ⊥) → record { says = 2; kind = 2; digits = 0; ten = 0; sixteen = 0; value = sixteen } ≡ number_ended ten sixteen x
+pub ended_at_colon : (ten sixteen x : ℕ) → (x ≡ 60 → ⊥) → (x ≡ 46 → ⊥) → SourceTurn.Number 2 sixteen ≡ number_ended ten sixteen x
 unfolding number_ended
 ended_at_colon ten sixteen x e f = rw (ne_eqb x 60 e, ne_eqb x 46 f) refl
 
-pub grown_by : (kind digits ten sixteen x v : ℕ) → v ≡ digit_value x → record { says = 0; kind = kind; digits = digits + 1; ten = ten * 10 + v; sixteen = sixteen * 16 + v; value = 0 } ≡ grown kind digits ten sixteen x
+pub grown_by : (kind digits ten sixteen x v : ℕ) → v ≡ digit_value x → SourceTurn.More (record { kind = kind; digits = digits + 1; ten = ten * 10 + v; sixteen = sixteen * 16 + v }) ≡ grown kind digits ten sixteen x
 unfolding grown
-grown_by kind digits ten sixteen x v e = λ j. record { says = 0; kind = kind; digits = digits + 1; ten = ten * 10 + e j; sixteen = sixteen * 16 + e j; value = 0 }
+grown_by kind digits ten sixteen x v e = λ j. SourceTurn.More (record { kind = kind; digits = digits + 1; ten = ten * 10 + e j; sixteen = sixteen * 16 + e j })
 
 less_last : (kind numbers digits x : ℕ) → ends_in kind numbers digits x ≡ true → x ≡ 60 → is_last (kind_of kind) numbers ≡ true
 unfolding ends_in
@@ -337,14 +340,14 @@ less_last kind numbers digits x e f = go (ltb 0 digits) (is_last (kind_of kind) 
     go false false g h = absurd (false≢true h)
 
 -- a turn that is refused, and a digit more
-pub is_refused : (kind numbers : ℕ) (five : Bool) (digits ten sixteen x : ℕ) → Sources kind numbers five digits ten sixteen x 20 0 0 0 0 0 → Turns kind numbers five digits ten sixteen x refused_turn
-unfolding refused_turn
-is_refused kind numbers five digits ten sixteen x h = (h, (λ e. absurd (omega (arith, e))), (λ e. absurd (omega (arith, e))), λ e. absurd (omega (arith, e)))
+pub is_refused : (kind numbers : ℕ) (five : Bool) (digits ten sixteen x : ℕ) → Sources kind numbers five digits ten sixteen x 20 0 0 0 0 0 → Turns kind numbers five digits ten sixteen x (Err Refusal.Outside)
+unfolding Turns refusal_number
+is_refused kind numbers five digits ten sixteen x h = h
 
 pub is_grown : (kind numbers : ℕ) (five : Bool) (digits ten sixteen x k : ℕ) → eqb k 1 ≡ eqb kind 1
-    → Sources kind numbers five digits ten sixteen x 0 k (digits + 1) (ten * 10 + digit_value x) (sixteen * 16 + digit_value x) 0 → Turns kind numbers five digits ten sixteen x (grown k digits ten sixteen x)
-unfolding grown
-is_grown kind numbers five digits ten sixteen x k q h = (h, (λ e. absurd (omega (arith, e))), (λ _. q), λ e. absurd (omega (arith, e)))
+    → Sources kind numbers five digits ten sixteen x 0 k (digits + 1) (ten * 10 + digit_value x) (sixteen * 16 + digit_value x) 0 → Turns kind numbers five digits ten sixteen x (Ok (grown k digits ten sixteen x))
+unfolding grown Turns
+is_grown kind numbers five digits ten sixteen x k q h = (h, q)
 
 -- a group goes on no dotted address
 pub not_dotted_kind : (kind : ℕ) (five : Bool) (digits sixteen x : ℕ) → grouped_on kind five digits sixteen x ≡ true → eqb 2 1 ≡ eqb kind 1
@@ -383,10 +386,14 @@ told_colon kind numbers digits ten sixteen x g i j =
 
 -- where a number ends, by `end_number`
 module _ (kind numbers : ℕ) (five : Bool) (digits ten sixteen x : ℕ) (e : is_sound kind numbers digits ten sixteen ≡ true) (g : ends_in kind numbers digits x ≡ true) where
-  pub turns_ended : Turns kind numbers five digits ten sixteen x (number_ended ten sixteen x)
+  abbrev Turned : SourceTurn → Type 0
+  Turned t = Turns kind numbers five digits ten sixteen x (Ok t)
+
+  pub turns_ended : Turned (number_ended ten sixteen x)
+  unfolding Turns
   turns_ended = go (eqb x 60) refl (eqb x 46) refl
     where
-      go : (a : Bool) → eqb x 60 ≡ a → (b : Bool) → eqb x 46 ≡ b → Turns kind numbers five digits ten sixteen x (number_ended ten sixteen x)
-      go true p b q = subst (Turns kind numbers five digits ten sixteen x) (ended_at_less ten sixteen x (eqb-true x 60 p)) (says_ended kind numbers five digits ten sixteen x e g (eqb-true x 60 p), (λ _. (less_last kind numbers digits x g (eqb-true x 60 p), fits_octet kind numbers ten (sound_parts kind numbers digits ten sixteen e).0)), (λ f. absurd (omega (arith, f))), λ f. absurd (omega (arith, f)))
-      go false p true q = subst (Turns kind numbers five digits ten sixteen x) (ended_at_dot ten sixteen x (eqb-false x 60 p) (eqb-true x 46 q)) (says_dot kind numbers five digits ten sixteen x e g (eqb-true x 46 q), (λ f. absurd (omega (arith, f))), (λ f. absurd (omega (arith, f))), λ _. told_dot kind numbers digits ten sixteen x e g (eqb-true x 46 q))
-      go false p false q = subst (Turns kind numbers five digits ten sixteen x) (ended_at_colon ten sixteen x (eqb-false x 60 p) (eqb-false x 46 q)) (says_colon kind numbers five digits ten sixteen x e g (eqb-false x 60 p) (eqb-false x 46 q), (λ f. absurd (omega (arith, f))), (λ f. absurd (omega (arith, f))), λ _. told_colon kind numbers digits ten sixteen x g (eqb-false x 60 p) (eqb-false x 46 q))
+      go : (a : Bool) → eqb x 60 ≡ a → (b : Bool) → eqb x 46 ≡ b → Turned (number_ended ten sixteen x)
+      go true p b q = subst Turned (ended_at_less ten sixteen x (eqb-true x 60 p)) (says_ended kind numbers five digits ten sixteen x e g (eqb-true x 60 p), less_last kind numbers digits x g (eqb-true x 60 p), fits_octet kind numbers ten (sound_parts kind numbers digits ten sixteen e).0)
+      go false p true q = subst Turned (ended_at_dot ten sixteen x (eqb-false x 60 p) (eqb-true x 46 q)) (says_dot kind numbers five digits ten sixteen x e g (eqb-true x 46 q), told_dot kind numbers digits ten sixteen x e g (eqb-true x 46 q))
+      go false p false q = subst Turned (ended_at_colon ten sixteen x (eqb-false x 60 p) (eqb-false x 46 q)) (says_colon kind numbers five digits ten sixteen x e g (eqb-false x 60 p) (eqb-false x 46 q), told_colon kind numbers digits ten sixteen x g (eqb-false x 60 p) (eqb-false x 46 q))

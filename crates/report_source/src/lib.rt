@@ -3,85 +3,55 @@
 
 ghost use Rattle.std.specs.Prelude.{◌≡◌, ◌+◌, ◌*◌, ◌<◌, ◌≤◌};
 ghost use Rattle.report_form.specs.code.ReportReading.{digit_value};
-ghost use Rattle.report_source.specs.code.Sources.{limit, fits_kind, is_sound, refused_turn, grown, number_ended, Turns};
+ghost use Rattle.report_source.specs.code.Sources.{limit, fits_kind, is_sound, grown, number_ended, Turns};
 
-// What an octet says: 0 a digit more, 1 the address has ended, 2 a number has, 20 it is refused; the kind (0 either, 1 dotted, 2 of
-// groups), the open number (its digits, and its value to base 10 and to base 16), and the number that has ended.
+use report_steps::Refusal;
+
+// The open number of an address of a kind (0 either, 1 dotted, 2 of groups): its digits, and its value to base 10 and to base 16.
 #[derive(Clone, Copy)]
-pub struct SourceTurn {
-    pub says: u8,
+pub struct OpenNumber {
     pub kind: u8,
     pub digits: u8,
     pub ten: u16,
     pub sixteen: u16,
-    pub value: u16,
 }
 
-const MORE: u8 = 0;
-
-const ENDED: u8 = 1;
-
-const NUMBER: u8 = 2;
-
-const OUTSIDE: u8 = 20;
+// What an octet says: the open number has a digit more, the address has ended, or a number of an address of that kind has.
+#[derive(Clone, Copy)]
+pub enum SourceTurn {
+    More(OpenNumber),
+    Ended,
+    Number(u8, u16),
+}
 
 // What a number of so many hexadecimal digits is below; 0 for more digits than a number has.
+#[tactic(auto, unfolding(crate::specs::code::Sources::limit))]
 fn limit_of(digits: u8) -> u32
     ensures { result ≡ limit digits }
 {
     let limits: [u32; 5] = [1, 16, 256, 4096, 65536];
-    let i = digits as usize;
-    if 5 <= i {
-        return 0;
-    }
-    limits[i]
+    limits.get(digits as usize).copied().unwrap_or(0)
 }
 
 // Whether so many numbers can stand before the open one of an address of a kind.
+#[tactic(auto, unfolding(crate::specs::code::Sources::fits_kind))]
 fn can_stand(kind: u8, numbers: u8, ten: u16) -> bool
     ensures { result ≡ fits_kind kind numbers ten }
 {
-    if kind == 0 {
-        if numbers != 0 {
-            return false;
-        }
-        return ten <= 255;
+    match kind {
+        0 => numbers == 0 && ten <= 255,
+        1 => numbers <= 3 && ten <= 255,
+        _ => numbers <= 7,
     }
-    if kind == 1 {
-        if 3 < numbers {
-            return false;
-        }
-        return ten <= 255;
-    }
-    numbers <= 7
 }
 
 // Whether some text leads to an open address with these numbers.
+#[tactic(auto, unfolding(crate::specs::code::Sources::is_sound))]
 fn can_be_open(kind: u8, numbers: u8, digits: u8, ten: u16, sixteen: u16) -> bool
     ensures { result ≡ is_sound kind numbers digits ten sixteen }
 {
-    if !can_stand(kind, numbers, ten) {
-        return false;
-    }
     let below = limit_of(digits);
-    if below <= sixteen as u32 {
-        return false;
-    }
-    (ten as u32) < below
-}
-
-// Refused.
-fn refuse() -> SourceTurn
-    ensures { result ≡ refused_turn }
-{
-    SourceTurn {
-        says: OUTSIDE,
-        kind: 0,
-        digits: 0,
-        ten: 0,
-        sixteen: 0,
-        value: 0,
-    }
+    can_stand(kind, numbers, ten) && (sixteen as u32) < below && (ten as u32) < below
 }
 
 // A digit more of the open number, of an address of that kind.
@@ -92,47 +62,23 @@ fn grow(kind: u8, digits: u8, ten: u16, sixteen: u16, x: u8) -> SourceTurn
     let unit = report_address::value_of(x) as u32;
     let tens = ten as u32 * 10 + unit;
     let sixteens = sixteen as u32 * 16 + unit;
-    SourceTurn {
-        says: MORE,
+    SourceTurn::More(OpenNumber {
         kind,
         digits: digits + 1,
         ten: tens as u16,
         sixteen: sixteens as u16,
-        value: 0,
-    }
+    })
 }
 
 // The open number ends at `<`, `.` or `:`.
+#[tactic(auto, unfolding(crate::specs::code::Sources::number_ended))]
 fn end_number(ten: u16, sixteen: u16, x: u8) -> SourceTurn
     ensures { result ≡ number_ended ten sixteen x }
 {
-    if x == b'<' {
-        return SourceTurn {
-            says: ENDED,
-            kind: 0,
-            digits: 0,
-            ten: 0,
-            sixteen: 0,
-            value: 0,
-        };
-    }
-    if x == b'.' {
-        return SourceTurn {
-            says: NUMBER,
-            kind: 1,
-            digits: 0,
-            ten: 0,
-            sixteen: 0,
-            value: ten,
-        };
-    }
-    SourceTurn {
-        says: NUMBER,
-        kind: 2,
-        digits: 0,
-        ten: 0,
-        sixteen: 0,
-        value: sixteen,
+    match x {
+        b'<' => SourceTurn::Ended,
+        b'.' => SourceTurn::Number(1, ten),
+        _ => SourceTurn::Number(2, sixteen),
     }
 }
 
@@ -145,23 +91,23 @@ pub fn step_source(
     ten: u16,
     sixteen: u16,
     x: u8,
-) -> SourceTurn
+) -> Result<SourceTurn, Refusal>
     ensures { Turns kind numbers five digits ten sixteen x result }
 {
     if !can_be_open(kind, numbers, digits, ten, sixteen) {
-        return refuse();
+        return Err(Refusal::Outside);
     }
     if report_address::ends_number(kind, numbers, digits, x) {
-        return end_number(ten, sixteen, x);
+        return Ok(end_number(ten, sixteen, x));
     }
     if 4 <= digits {
-        return refuse();
+        return Err(Refusal::Outside);
     }
     if report_address::goes_dotted(kind, digits, ten, sixteen, x) {
-        return grow(kind, digits, ten, sixteen, x);
+        return Ok(grow(kind, digits, ten, sixteen, x));
     }
     if report_address::goes_grouped(kind, five, digits, sixteen, x) {
-        return grow(2, digits, ten, sixteen, x);
+        return Ok(grow(2, digits, ten, sixteen, x));
     }
-    refuse()
+    Err(Refusal::Outside)
 }

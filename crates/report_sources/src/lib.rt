@@ -12,15 +12,14 @@ fn leading_zeros(high: u8, low: u8) -> usize
     ensures { (result ≤ 3) × (drop result (four_digits high low) ≡ hex_digits 4 (high * 256 + low)) }
 {
     if 15 < high {
-        return 0;
+        0
+    } else if 0 < high {
+        1
+    } else if 15 < low {
+        2
+    } else {
+        3
     }
-    if 0 < high {
-        return 1;
-    }
-    if 15 < low {
-        return 2;
-    }
-    3
 }
 
 // A hexadecimal digit.
@@ -54,12 +53,12 @@ fn put_dotted(s: &[u8], at: usize, out: &mut [u8]) -> usize
     let dot = [46];
     let mut t = s;
     let mut end = at;
+    // By what is left, since a mark follows only where another octet does.
     while 0 < t.len() {
         let number = records_fields::octet_at(t, 0, 0) as u64;
         let rest = &t[1..];
         let mark = text_parts::part(&dot, 0, rest.len());
-        let next = octets_pieces::put_decimal_then(number, mark, end, out);
-        end = next;
+        end = octets_pieces::put_decimal_then(number, mark, end, out);
         t = rest;
     }
     end
@@ -75,11 +74,10 @@ pub fn put_address(source: &[u8], at: usize, out: &mut [u8]) -> usize
     }
     let mut t = source;
     let mut end = at;
+    // By what is left: a group of two octets, and a mark where another group follows.
     while 1 < t.len() {
-        let next = put_group(t, end, out);
-        end = next;
-        let rest = &t[2..];
-        t = rest;
+        end = put_group(t, end, out);
+        t = &t[2..];
     }
     end
 }

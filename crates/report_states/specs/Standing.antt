@@ -1,6 +1,5 @@
 -- Where the form is read: a node for each literal, word and value, where each leads, and the program that is left at every place.
-use Rattle.std.specs.Prelude.{List, [], ◌∷◌, ◌++◌, Bool, true, false, ℕ, zero, suc, ◌-◌, eqb, leb, ltb, length, drop, get_or, if◌then◌else◌}
-use Rattle.std.proofs.Math.Option.{Option, none as nothing, some as just}
+use Rattle.std.specs.Prelude.{List, [], ◌∷◌, ◌++◌, Bool, true, false, ℕ, zero, suc, ◌-◌, eqb, leb, ltb, length, drop, get_or, if◌then◌else◌, Option, None, Some}
 use Prim.Native.String.{String}
 use Rattle.octets.specs.Octets.{Octets, octets}
 use Rattle.octets.specs.Decimal.{decimal}
@@ -98,8 +97,8 @@ words w_more = "record>" ∷ "/feedback>" ∷ []
 
 -- the first of some words that begins with an octet, by its place from k on
 unfoldable pub pick_from : ℕ → ℕ → List String → Option ℕ
-pick_from k x [] = nothing
-pick_from k x (w ∷ ws) = elim (first_is x (octets w)) [ true ↦ just k | false ↦ pick_from (suc k) x ws ]
+pick_from k x [] = None
+pick_from k x (w ∷ ws) = elim (first_is x (octets w)) [ true ↦ Some k | false ↦ pick_from (suc k) x ws ]
 
 unfoldable pub pick : ℕ → List String → Option ℕ
 pick x ws = pick_from 0 x ws
@@ -213,11 +212,11 @@ pub record Goes : Type 0 where
   pub node : Node
 
 unfoldable pub by : Node → Open → Goes
-by n o = record { row = nothing; known = o; node = n }
+by n o = record { row = None; known = o; node = n }
 
 unfoldable pub handed : Option Said → Reads Said (Unit {0}) → Reads Said (Unit {0})
-handed nothing t = t
-handed (just r) t = give r t
+handed None t = t
+handed (Some r) t = give r t
 
 unfoldable pub arrive : Goes → Reads Said (Unit {0})
 arrive g = handed g.row (from g.node g.known)
@@ -277,7 +276,7 @@ literal_goes l_sender o = by (name_node m_sender) o
 literal_goes l_sender_domain_end o = by (word_node w_sender) o
 literal_goes l_sender_end o = by (literal_node l_record_end) (with_sender o)
 literal_goes l_full o = by (literal_node l_record_end) o
-literal_goes l_record_end o = record { row = just (said_open o); known = o; node = records_node o.left }
+literal_goes l_record_end o = record { row = Some (said_open o); known = o; node = records_node o.left }
 literal_goes l_more_start o = by (word_node w_more) o
 literal_goes l_feedback o = by (last_node) o
 
@@ -379,8 +378,8 @@ address_left a = digits_from (4 - a.digits) (part_from (7 - length a.before)) a
 
 -- refused, or what is left of the word that it begins
 unfoldable pub picked : List String → (ℕ → Goes) → Option ℕ → Step Said (Unit {0})
-picked ws g nothing = refused 20
-picked ws g (just k) = on (exactly (drop 1 (octets (get_or ws k ""))) >> arrive (g k))
+picked ws g None = refused 20
+picked ws g (Some k) = on (exactly (drop 1 (octets (get_or ws k ""))) >> arrive (g k))
 
 -- ------------------------------------------------------------------ a place
 

@@ -5,53 +5,35 @@ ghost use Rattle.std.specs.Prelude.{◌≡◌};
 ghost use Rattle.report_kept.specs.code.View.{is_broken, Turned};
 
 use report_kept::{ReaderState, Turn};
-
-const OUTSIDE: u8 = 20;
+use report_steps::Refusal;
 
 // Whether no text leads to a node behind so many identifiers.
+#[tactic(auto, unfolding(report_kept::specs::code::View::is_broken, report_kept::specs::code::View::within_identifier, octets::specs::Octets::between))]
 pub fn cannot_be(node: u8, identifiers: u8) -> bool
     ensures { result ≡ is_broken node identifiers }
 {
-    if identifiers < 16 {
-        return false;
+    match node {
+        24..=31 | 48..=50 | 61..=63 => 16 <= identifiers,
+        _ => false,
     }
-    if text_class::is_between(node, 24, 31) {
-        return true;
-    }
-    if text_class::is_between(node, 48, 50) {
-        return true;
-    }
-    text_class::is_between(node, 61, 63)
 }
 
 // An octet; whether five groups 0 stand before an address's open one is told.
-pub fn step(s: ReaderState, five: bool, x: u8) -> Turn
+pub fn step(s: ReaderState, five: bool, x: u8) -> Result<Turn, Refusal>
     ensures { Turned s five x result }
 {
     let node = s.node;
     if cannot_be(node, s.identifiers) {
-        return report_kept::say(OUTSIDE, s);
+        return Err(Refusal::Outside);
     }
-    if node < 36 {
-        return report_literals::turn_literal(s, x);
+    match node {
+        0..=35 => report_literals::turn_literal(s, x),
+        36..=51 => report_picks::turn_word(s, x),
+        52..=54 => report_turns::turn_text(s, x),
+        55 => report_turns::turn_id(s, x),
+        56..=58 => report_turns::turn_number(s, x),
+        59..=63 => report_names::turn_name(s, x),
+        64 => report_origin::turn_source(s, five, x),
+        _ => Err(Refusal::Outside),
     }
-    if node < 52 {
-        return report_picks::turn_word(s, x);
-    }
-    if node < 55 {
-        return report_turns::turn_text(s, x);
-    }
-    if node == 55 {
-        return report_turns::turn_id(s, x);
-    }
-    if node < 59 {
-        return report_turns::turn_number(s, x);
-    }
-    if node < 64 {
-        return report_names::turn_name(s, x);
-    }
-    if node == 64 {
-        return report_origin::turn_source(s, five, x);
-    }
-    report_kept::say(OUTSIDE, s)
 }

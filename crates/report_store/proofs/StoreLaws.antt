@@ -44,67 +44,17 @@ laid_more (suc i) zero v ws row e = absurd (omega (arith, e))
 laid_more (suc i) (suc to) v ws [] e = refl
 laid_more (suc i) (suc to) v ws (y ∷ row) e = ap (λ l. y ∷ l) (laid_more i to v ws row (omega (arith, e)))
 
-laid_nothing : (at : ℕ) (row : Octets) → laid_at at [] row ≡ row
-unfolding laid_at laid
-laid_nothing zero row = refl
-laid_nothing (suc at) [] = refl
-laid_nothing (suc at) (y ∷ row) = ap (λ l. y ∷ l) (laid_nothing at row)
-
-module _ (w : Written) (row : Octets) where
-  abbrev one : Octets
-  one = laid_at w.at (w.first ∷ []) row
-
-  abbrev two : Octets
-  two = laid_at (w.at + 1) (w.second ∷ []) one
-
-  abbrev three : Octets
-  three = laid_at (w.at + 2) (w.third ∷ []) two
-
-  abbrev four : Octets
-  four = laid_at (w.at + 3) (w.fourth ∷ []) three
-
-  taken_few : (n : ℕ) → w.count ≡ n → write w row ≡ laid_at w.at (take n (w.first ∷ w.second ∷ w.third ∷ w.fourth ∷ [])) row
+module _ (at : ℕ) (row : Octets) where
+  pub writes_two : (a b : ℕ) → laid_at (at + 1) (b ∷ []) (laid_at at (a ∷ []) row) ≡ write (Written.Two at a b) row
   unfolding write
-  taken_few n e = ap (λ k. laid_at w.at (take k (w.first ∷ w.second ∷ w.third ∷ w.fourth ∷ [])) row) e
+  writes_two a b = laid_more at (at + 1) a (b ∷ []) row (omega arith)
 
-  pub writes_none : w.count < 1 → row ≡ write w row
-  writes_none h = sym (taken_few 0 (omega (arith, h)) ∙ laid_nothing w.at row)
-
-  pub writes_one : 1 ≤ w.count → w.count < 2 → one ≡ write w row
-  writes_one g h = sym (taken_few 1 (omega (arith, g, h)))
-
-  both : two ≡ laid_at w.at (w.first ∷ w.second ∷ []) row
-  both = laid_more w.at (w.at + 1) w.first (w.second ∷ []) row (omega arith)
-
-  pub writes_two : 2 ≤ w.count → w.count < 3 → two ≡ write w row
-  writes_two g h = both ∙ sym (taken_few 2 (omega (arith, g, h)))
-
-  all_three : three ≡ laid_at w.at (w.first ∷ w.second ∷ w.third ∷ []) row
-  all_three =
-      laid_more (w.at + 1) (w.at + 2) w.second (w.third ∷ []) one (omega arith)
-      ∙ laid_more w.at (w.at + 1) w.first (w.second ∷ w.third ∷ []) row (omega arith)
-
-  pub writes_three : 3 ≤ w.count → w.count < 4 → three ≡ write w row
-  writes_three g h = all_three ∙ sym (taken_few 3 (omega (arith, g, h)))
-
-  take_all : (n : ℕ) → 4 ≤ n → (a b c d : ℕ) → take n (a ∷ b ∷ c ∷ d ∷ []) ≡ a ∷ b ∷ c ∷ d ∷ []
-  take_all zero h a b c d = absurd (omega (arith, h))
-  take_all (suc zero) h a b c d = absurd (omega (arith, h))
-  take_all (suc (suc zero)) h a b c d = absurd (omega (arith, h))
-  take_all (suc (suc (suc zero))) h a b c d = absurd (omega (arith, h))
-  take_all (suc (suc (suc (suc n)))) h a b c d = ap (λ l. a ∷ b ∷ c ∷ d ∷ l) (no_more n)
-    where
-      no_more : (m : ℕ) → take {A = ℕ} m [] ≡ []
-      no_more zero = refl
-      no_more (suc m) = refl
-
-  pub writes_four : 4 ≤ w.count → four ≡ write w row
+  pub writes_four : (a b c d : ℕ) → laid_at (at + 3) (d ∷ []) (laid_at (at + 2) (c ∷ []) (laid_at (at + 1) (b ∷ []) (laid_at at (a ∷ []) row))) ≡ write (Written.Four at a b c d) row
   unfolding write
-  writes_four h =
-      laid_more (w.at + 2) (w.at + 3) w.third (w.fourth ∷ []) two (omega arith)
-      ∙ laid_more (w.at + 1) (w.at + 2) w.second (w.third ∷ w.fourth ∷ []) one (omega arith)
-      ∙ laid_more w.at (w.at + 1) w.first (w.second ∷ w.third ∷ w.fourth ∷ []) row (omega arith)
-      ∙ ap (λ l. laid_at w.at l row) (sym (take_all w.count h w.first w.second w.third w.fourth))
+  writes_four a b c d =
+      laid_more (at + 2) (at + 3) c (d ∷ []) (laid_at (at + 1) (b ∷ []) (laid_at at (a ∷ []) row)) (omega arith)
+      ∙ laid_more (at + 1) (at + 2) b (c ∷ d ∷ []) (laid_at at (a ∷ []) row) (omega arith)
+      ∙ laid_more at (at + 1) a (b ∷ c ∷ d ∷ []) row (omega arith)
 
 -- ------------------------------------------------------------------ five numbers 0
 

@@ -12,34 +12,29 @@ use report_kept::Written;
 pub fn put_one(row: &mut [u8], at: usize, x: u8)
     ensures { row.new ≡ laid_at at (x ∷ []) row.old }
 {
-    if row.len() <= at {
-        return;
+    if at < row.len() {
+        row[at] = x;
     }
-    row[at] = x;
 }
 
-// All that is written, at most four octets.
+// All that is written.
 pub fn put(row: &mut [u8], w: Written)
     ensures { row.new ≡ write w row.old }
 {
-    let at = w.at as usize;
-    let count = w.count;
-    if count < 1 {
-        return;
+    match w {
+        Written::Nothing => {}
+        Written::One(at, a) => put_one(row, at as usize, a),
+        Written::Two(at, a, b) => {
+            put_one(row, at as usize, a);
+            put_one(row, at as usize + 1, b);
+        }
+        Written::Four(at, a, b, c, d) => {
+            put_one(row, at as usize, a);
+            put_one(row, at as usize + 1, b);
+            put_one(row, at as usize + 2, c);
+            put_one(row, at as usize + 3, d);
+        }
     }
-    put_one(row, at, w.first);
-    if count < 2 {
-        return;
-    }
-    put_one(row, at + 1, w.second);
-    if count < 3 {
-        return;
-    }
-    put_one(row, at + 2, w.third);
-    if count < 4 {
-        return;
-    }
-    put_one(row, at + 3, w.fourth);
 }
 
 // A group of two.
@@ -79,10 +74,10 @@ pub fn five_before(kind: u8, numbers: u8, row: &[u8]) -> bool
     ensures { result ≡ five_zeros (before_in kind numbers row.now) }
 {
     if numbers != 5 {
-        return false;
+        false
+    } else if kind == 1 {
+        five_octets(row)
+    } else {
+        five_groups(row)
     }
-    if kind == 1 {
-        return five_octets(row);
-    }
-    five_groups(row)
 }

@@ -1,8 +1,9 @@
 -- Laws of the mail subject.
+use Rattle.std.specs.Prelude.{Result, Ok, Err}
 use mathlib.Core.Path.{◌≡◌, refl, sym, ◌∙◌}
 use mathlib.Core.List.{◌++◌}
 use mathlib.Core.Bool.{Bool, true, false, ◌&&◌, not}
-use Prim.Native.Nat.{ℕ, ◌+◌, ◌≤◌, ◌<◌}
+use Prim.Native.Nat.{ℕ, ◌≤◌, ◌<◌}
 use native.Mathlib.Omega.{arith}
 use native.Mathlib.Nat.{zero-add}
 use borrow.Author.Tests.{not-true, not-false}
@@ -10,8 +11,6 @@ use lib.ListN.{length, length-append}
 use Rattle.octets.specs.Octets.{Octets, octets, lower}
 use Rattle.octets.specs.Lent.{Writes, WritesIf, written_if, left_if}
 use Rattle.octets.specs.Refusing.{◌>>=◌, refusal, refuse_if}
-use Rattle.octets.specs.declared.Written.{Written}
-use Rattle.octets.specs.declared.Written.TheVariants.{Wrote, Refused}
 use Rattle.octets.proofs.LentLaws.{refuses}
 use Rattle.octets.proofs.TextLaws.{lower_length}
 use Rattle.octets_append.proofs.AppendLaws.{appends_whole}
@@ -23,6 +22,7 @@ use Rattle.reporting.specs.FileName.{good_id}
 use Rattle.report.specs.Subject.{subject_text, subject_of, subject}
 use Rattle.report.proofs.SizeLaws.{both_hold, id_size}
 use Rattle.report.proofs.Regrouping.{leaf, ◌·◌, whole, along, regroup, lit}
+use Rattle.octets.specs.declared.Refusal.{Refusal}
 
 subject_short : (r p : Domain) (id : Octets) → (is_domain r && is_domain p && good_id id) ≡ true → length (subject_text r p id) ≤ 700
 unfolding subject_text octets
@@ -46,7 +46,7 @@ subject_puts r p id before a b c d = rw (subject_regroup (lower r) (lower p) id)
 
 module _ (receiver policy_domain id : Octets) {r p : Domain} (f : r ≡ without_dot receiver) (g : p ≡ without_dot policy_domain) (before : Octets)
     {good : Bool} (e : good ≡ (is_domain r && is_domain p && good_id id)) where
-  pub subject_refused : not good ≡ true → WritesIf (subject receiver policy_domain id) before (Refused (refusal 11 0)) before
+  pub subject_refused : not good ≡ true → WritesIf (subject receiver policy_domain id) before (Err (refusal 11 0)) before
   unfolding subject subject_of ◌>>=◌ refuse_if written_if left_if
   subject_refused h = let bad = sym e ∙ not-true good h in record { answers = rw (← f, ← g, bad); leaves = rw (← f, ← g, bad) }
 
@@ -57,12 +57,12 @@ module _ (receiver policy_domain id : Octets) {r p : Domain} (f : r ≡ without_
     counted : n ≡ length (subject_text r p id)
     counted = q.counts (omega (arith, subject_short r p id is_good)) ∙ zero-add (length (subject_text r p id))
 
-    by : {answer : Written} {after : Octets} → Writes (subject_text r p id) before answer after → WritesIf (subject receiver policy_domain id) before answer after
+    by : {answer : Result ℕ Refusal} {after : Octets} → Writes (subject_text r p id) before answer after → WritesIf (subject receiver policy_domain id) before answer after
     unfolding subject subject_of ◌>>=◌ refuse_if written_if left_if
     by w = record { answers = rw (← f, ← g, is_good) w.answers; leaves = rw (← f, ← g, is_good) w.leaves }
 
-    pub subject_too_long : length before < n → {answer : Written} → answer ≡ Refused (refusal 10 n) → WritesIf (subject receiver policy_domain id) before answer before
+    pub subject_too_long : length before < n → {answer : Result ℕ Refusal} → answer ≡ Err (refusal 10 n) → WritesIf (subject receiver policy_domain id) before answer before
     subject_too_long k z = by (refuses (subject_text r p id) before (omega (arith, counted, k)) n counted _ z)
 
-    pub subject_written : n ≤ length before → {next : ℕ} {after : Octets} → Puts (subject_text r p id) 0 before next after → WritesIf (subject receiver policy_domain id) before (Wrote next) after
+    pub subject_written : n ≤ length before → {next : ℕ} {after : Octets} → Puts (subject_text r p id) 0 before next after → WritesIf (subject receiver policy_domain id) before (Ok next) after
     subject_written k s = let room : length (subject_text r p id) ≤ length before = omega (arith, counted, k) in by (appends_whole (subject_text r p id) before room (s.appends (omega (arith, room))))

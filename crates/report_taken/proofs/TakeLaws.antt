@@ -7,7 +7,9 @@ use native.Mathlib.Omega.{arith}
 use lib.Dec.{eqb}
 use lib.ListN.{length}
 use borrow.Author.Tests.{eq-eqb, ne_eqb, eqb-true, eqb-false}
-use Rattle.std.specs.Prelude.{if◌then◌else◌}
+use Rattle.std.specs.Prelude.{if◌then◌else◌, Result, Ok, Err}
+use Rattle.report_steps.specs.declared.Refusal.{Refusal}
+use Rattle.report_steps.specs.code.Steps.{refusal_number}
 use Rattle.octets.specs.Octets.{Octets}
 use Rattle.octets.specs.Refusing.{refusal}
 use Rattle.parsing.specs.Reads.{Reads, give, Left, open_at, stuck, Reader, Fed, handing, stands, run, feed}
@@ -76,67 +78,72 @@ module _ (s : ReaderState) (row : Octets) (x : ℕ) where
             ∙ ap (λ r. record { rows = []; reader = r }) (sym (view_stuck (stopped 20 s) row (λ q. omega (arith, q)))),
       )
 
-module _ (s : ReaderState) (five : Bool) (x : ℕ) (r : Turn) (turned : Turned s five x r) (row : Octets) (knows : KnowsFive s row five) (calm : s.refused ≡ 0) (few : s.taken < largest) where
-  abbrev after : Octets
-  after = write r.written row
+numbered : (r : Refusal) → refusal_number r ≡ 0 → ⊥
+unfolding refusal_number
+numbered Refusal.Outside q = omega (arith, q)
+numbered Refusal.Over q = omega (arith, q)
+numbered Refusal.Early q = omega (arith, q)
 
+module _ (s : ReaderState) (five : Bool) (x : ℕ) (row : Octets) (knows : KnowsFive s row five) (calm : s.refused ≡ 0) (few : s.taken < largest) where
   abbrev rest : ℕ
   rest = largest - (s.taken + 1)
 
-  stepped : length row ≡ 8432 → feed (view s row) (x ∷ []) ≡ run_after s.taken (step_most rest (turn_step r.says (said_in r.state after) (left_in r.state after))) []
-  stepped l =
+  stepped : (r : Result Turn Refusal) → Turned s five x r → length row ≡ 8432 → feed (view s row) (x ∷ []) ≡ run_after s.taken (step_most rest (turn_step r row)) []
+  stepped r turned l =
       let some : largest - s.taken ≡ suc rest = omega (arith, few) in
       first s row x calm
       ∙ ap (λ n. run_after s.taken (step_of (at_most n (left_in s row)) x) []) some
       ∙ ap (λ t. run_after s.taken t []) (most_step rest x (left_in s row))
       ∙ ap (λ t. run_after s.taken (step_most rest t) []) (turned row l knows)
 
-  pub takes_refused : 2 ≤ r.says → Takes s x row (record { gives = false; state = stopped r.says s }) row
+  pub takes_refused : (r : Refusal) → Turned s five x (Err r) → Takes s x row (record { gives = false; state = stopped (refusal_number r) s }) row
   unfolding run_after rows_by stopped turn_step step_most
-  takes_refused h l =
-      let no_zero = ne_eqb r.says 0 (λ q. omega (arith, q, h)) in
-      let no_one = ne_eqb r.says 1 (λ q. omega (arith, q, h)) in (
-        l,
-        rw (no_zero, no_one) at (stepped l)
-            ∙ ap (λ v. record { rows = []; reader = v }) (sym (view_stuck (stopped r.says s) row (λ q. omega (arith, q, h)))),
-      )
+  takes_refused r turned l = (
+    l,
+    stepped (Err r) turned l
+        ∙ ap (λ v. record { rows = []; reader = v }) (sym (view_stuck (stopped (refusal_number r) s) row (numbered r))),
+  )
 
-  long : length row ≡ 8432 → length after ≡ 8432
-  unfolding write
-  long l = length_laid r.written.at _ row ∙ l
+  module _ (r : Turn) (turned : Turned s five x (Ok r)) where
+    abbrev after : Octets
+    after = write r.written row
 
-  abbrev onward : ReaderState
-  onward = counted (s.taken + 1) r.state
+    long : (w : Written) → length row ≡ 8432 → length (write w row) ≡ 8432
+    unfolding write
+    long Written.Nothing l = l
+    long (Written.One at a) l = length_laid at (a ∷ []) row ∙ l
+    long (Written.Two at a b) l = length_laid at (a ∷ b ∷ []) row ∙ l
+    long (Written.Four at a b c d) l = length_laid at (a ∷ b ∷ c ∷ d ∷ []) row ∙ l
 
-  same_left : left_in onward after ≡ left_in r.state after
-  unfolding counted left_in source_from known_of place_of kept_of so_far_in
-  same_left = refl
+    abbrev onward : ReaderState
+    onward = counted (s.taken + 1) r.state
 
-  same_said : said_in onward after ≡ said_in r.state after
-  unfolding counted said_in known_of
-  same_said = refl
+    same_left : left_in onward after ≡ left_in r.state after
+    unfolding counted left_in source_from known_of place_of kept_of so_far_in
+    same_left = refl
 
-  stays : run (suc s.taken) (at_most rest (left_in r.state after)) [] ≡ record { rows = []; reader = view onward after }
-  unfolding counted
-  stays =
-      let one : suc s.taken ≡ s.taken + 1 = omega arith in
-      run_nothing (suc s.taken) (at_most rest (left_in r.state after)) (ready r.state after rest)
-      ∙ (λ j. stands (one j) (open_at (at_most rest (sym same_left j))))
-      ∙ ap (λ v. record { rows = []; reader = v }) (sym (view_open onward after refl))
+    same_said : said_in onward after ≡ said_in r.state after
+    unfolding counted said_in known_of
+    same_said = refl
 
-  on_turn : r.says < 2 → Takes s x row (record { gives = eqb r.says 1; state = onward }) after
-  unfolding run_after rows_by turn_step step_most at_most handing run
-  on_turn h l = (long l, go (eqb r.says 0) refl)
-    where
-      go : (b : Bool) → eqb r.says 0 ≡ b → feed (view s row) (x ∷ []) ≡ record { rows = rows_by (eqb r.says 1) onward after; reader = view onward after }
-      go true e =
-          let zero : r.says ≡ 0 = eqb-true r.says 0 e in
-          rw zero at (stepped l) ∙ stays ∙ ap (λ n. record { rows = rows_by (eqb n 1) onward after; reader = view onward after }) (sym zero)
-      go false e =
-          let one : r.says ≡ 1 = (let no = eqb-false r.says 0 e in omega (arith, no, h)) in
-          rw one at (stepped l) ∙ ap (handing (said_in r.state after)) stays ∙ ap (λ v. record { rows = v ∷ []; reader = view onward after }) (sym same_said)
-          ∙ ap (λ n. record { rows = rows_by (eqb n 1) onward after; reader = view onward after }) (sym one)
+    stays : run (suc s.taken) (at_most rest (left_in r.state after)) [] ≡ record { rows = []; reader = view onward after }
+    unfolding counted
+    stays =
+        let one : suc s.taken ≡ s.taken + 1 = omega arith in
+        run_nothing (suc s.taken) (at_most rest (left_in r.state after)) (ready r.state after rest)
+        ∙ (λ j. stands (one j) (open_at (at_most rest (sym same_left j))))
+        ∙ ap (λ v. record { rows = []; reader = v }) (sym (view_open onward after refl))
 
-  pub takes_on : (t : ReaderState) (now : Octets) → t ≡ onward → now ≡ after → r.says < 2 → Takes s x row (record { gives = eqb r.says 1; state = t }) now
-  takes_on t now e f h = subst (λ u. Takes s x row (record { gives = eqb r.says 1; state = u }) now) (sym e)
-      (subst (λ (l : Octets). Takes s x row (record { gives = eqb r.says 1; state = onward }) l) (sym f) (on_turn h))
+    on_turn : Takes s x row (record { gives = r.gives; state = onward }) after
+    unfolding run_after rows_by turn_step step_most at_most handing run
+    on_turn l = (long r.written l, go r.gives refl)
+      where
+        go : (b : Bool) → r.gives ≡ b → feed (view s row) (x ∷ []) ≡ record { rows = rows_by r.gives onward after; reader = view onward after }
+        go false e = rw e at (stepped (Ok r) turned l) ∙ stays ∙ ap (λ b. record { rows = rows_by b onward after; reader = view onward after }) (sym e)
+        go true e =
+            rw e at (stepped (Ok r) turned l) ∙ ap (handing (said_in r.state after)) stays ∙ ap (λ v. record { rows = v ∷ []; reader = view onward after }) (sym same_said)
+            ∙ ap (λ b. record { rows = rows_by b onward after; reader = view onward after }) (sym e)
+
+    pub takes_on : (t : ReaderState) (now : Octets) → t ≡ onward → now ≡ after → Takes s x row (record { gives = r.gives; state = t }) now
+    takes_on t now e f = subst (λ u. Takes s x row (record { gives = r.gives; state = u }) now) (sym e)
+        (subst (λ (l : Octets). Takes s x row (record { gives = r.gives; state = onward }) l) (sym f) on_turn)

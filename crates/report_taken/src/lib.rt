@@ -2,13 +2,14 @@
 #![tactic(auto)]
 
 ghost use Rattle.std.specs.Prelude.{◌≡◌};
+ghost use Rattle.report_steps.specs.code.Steps.{refusal_number};
 ghost use Rattle.report_taken.specs.code.Taking.{Takes, KnowsFive, stopped, counted};
 
 use report_kept::ReaderState;
+use report_steps::Refusal;
 
-const LARGEST: u64 = 18446744073709551615;
-
-const OUTSIDE: u8 = 20;
+// At most so many octets are counted.
+const LARGEST: u64 = u64::MAX;
 
 // Whether a row is handed out, and the state after an octet.
 #[derive(Clone, Copy)]
@@ -17,64 +18,75 @@ pub struct Taken {
     pub state: ReaderState,
 }
 
-// A reader that is refused.
-pub fn stop(s: ReaderState, number: u8) -> ReaderState
-    ensures { result ≡ stopped number s }
+// A refusal's number.
+#[tactic(auto, unfolding(report_steps::specs::code::Steps::refusal_number))]
+fn number_of(refusal: Refusal) -> u8
+    ensures { result ≡ refusal_number refusal }
 {
-    let mut after = s;
-    after.refused = number as u64;
-    after
+    match refusal {
+        Refusal::Outside => 20,
+        Refusal::Over => 21,
+        Refusal::Early => 22,
+    }
+}
+
+// A reader that is refused.
+pub fn stop(s: ReaderState, refusal: Refusal) -> ReaderState
+    ensures { result ≡ stopped (refusal_number refusal) s }
+{
+    ReaderState {
+        refused: number_of(refusal) as u64,
+        ..s
+    }
 }
 
 // One that is not, behind so many octets.
+#[tactic(auto, unfolding(crate::specs::code::Taking::counted))]
 pub fn count_on(s: ReaderState, taken: u64) -> ReaderState
     ensures { result ≡ counted taken s }
 {
-    let mut after = s;
-    after.taken = taken;
-    after.refused = 0;
-    after
+    ReaderState {
+        taken,
+        refused: 0,
+        ..s
+    }
 }
 
 // Whether five groups 0 stand before an address's open one; of no other node it is asked.
 fn knows_five(s: ReaderState, row: &[u8]) -> bool
     ensures { KnowsFive s row.now result }
 {
-    if s.node == 64 {
-        return report_store::five_before(s.kind, s.numbers, row);
-    }
-    false
+    s.node == 64 && report_store::five_before(s.kind, s.numbers, row)
 }
 
 // An octet, with the row's 8,432 octets lent.
 pub fn take_octet(s: ReaderState, x: u8, row: &mut [u8]) -> Taken
     ensures { Takes s x row.old result row.new }
 {
-    let taken = s.taken;
     if s.refused != 0 {
         return Taken {
             gives: false,
             state: s,
         };
     }
-    if LARGEST <= taken {
+    if LARGEST <= s.taken {
         return Taken {
             gives: false,
-            state: stop(s, OUTSIDE),
+            state: stop(s, Refusal::Outside),
         };
     }
     let five = knows_five(s, row);
-    let turn = report_step::step(s, five, x);
-    let says = turn.says;
-    if 2 <= says {
-        return Taken {
+    match report_step::step(s, five, x) {
+        Ok(turn) => {
+            report_store::put(row, turn.written);
+            Taken {
+                gives: turn.gives,
+                state: count_on(turn.state, s.taken + 1),
+            }
+        }
+        Err(refusal) => Taken {
             gives: false,
-            state: stop(s, says),
-        };
-    }
-    report_store::put(row, turn.written);
-    Taken {
-        gives: says == 1,
-        state: count_on(turn.state, taken + 1),
+            state: stop(s, refusal),
+        },
     }
 }

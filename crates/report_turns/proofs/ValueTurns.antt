@@ -1,38 +1,29 @@
 -- Laws of one octet of a text, an id or a number.
 use mathlib.Core.Path.{◌≡◌, refl, sym, ap, ◌∙◌, subst}
-use mathlib.Core.List.{List, [], ◌∷◌, ◌++◌}
-use mathlib.Core.Bool.{Bool, true, false, false≢true}
-use Prim.Native.Nat.{ℕ, zero, suc, ◌+◌, ◌-◌, ◌≤◌, ◌<◌, ◌^◌}
+use mathlib.Core.Bool.{Bool, true, false}
+use Prim.Native.Nat.{ℕ, zero, suc, ◌-◌, ◌≤◌, ◌<◌}
 use native.Mathlib.Omega.{arith}
-use lib.Dec.{eqb, leb}
+use lib.Dec.{eqb}
 use lib.ListN.{length}
-use borrow.Author.Tests.{eq-eqb, ne_eqb, lt-leb, le-leb}
+use borrow.Author.Tests.{lt-leb, le-leb}
 use Rattle.std.specs.Prelude.{if◌then◌else◌}
 use Rattle.octets.specs.Octets.{Octets, is_set, between}
-use Rattle.parsing_steps.specs.Stepping.{Step, on, refused, step_of}
-use Rattle.report_form.specs.ReportForm.{Said, widths}
+use Rattle.parsing_steps.specs.Stepping.{step_of}
+use Rattle.report_form.specs.ReportForm.{Said}
 use Rattle.report_states.specs.Chain.{Open, with_begin, with_count}
-use Rattle.report_states.specs.Standing.{Text, Number, Node, Goes, t_org, t_email, t_extra, n_begin, n_end, n_count, text_node, id_node, number_node, by, handed, arrive, from, from_literal, l_id_end, text_goes, number_goes, text_left, id_left, number_left, least, most, floor, nodes, node_of, left_at}
-use Rattle.report_leaves.specs.code.Leaves.{meant}
+use Rattle.report_states.specs.Standing.{Text, Number, t_org, t_email, t_extra, n_begin, n_end, n_count, text_node, id_node, number_node, by, handed, arrive, from, text_goes, number_goes, text_left, id_left, digits_of, number_left, least, most, floor, nodes, node_of, left_at}
+use Rattle.std.specs.Prelude.{Option, None, Some, Result, Ok, Err}
+use Rattle.std.specs.Option.{is_some, unwrap_or}
+use Rattle.parsing.specs.Reads.{◌>>◌}
+use Rattle.report_steps.specs.declared.Leaf.{Leaf}
+use Rattle.report_steps.specs.declared.Refusal.{Refusal}
+use Rattle.report_leaves.specs.declared.TextPlace.{TextPlace}
+use Rattle.report_leaves.specs.code.Leaves.{said, text_at}
 use Rattle.report_values.proofs.NodeSteps.{goes, text_step, id_step, number_step}
 use Rattle.report_kept.specs.declared.ReaderState.{ReaderState}
-use Rattle.report_kept.specs.declared.Turn.{Turn}
-use Rattle.report_kept.specs.code.View.{known_of, place_of, kept_of, within_identifier, is_broken, left_in, said_in, laid, laid_at, write, turn_step, Turned, arrived, longer, at_number, valued, unwritten, plain}
+use Rattle.report_kept.specs.code.View.{known_of, place_of, kept_of, within_identifier, is_broken, left_in, write, turn_step, Turned, arrived, longer, at_number, valued, plain}
 use Rattle.report_kept.proofs.ArriveLaws.{left_other, lands}
-use Rattle.report_turns.specs.code.Values.{least_of, most_of, floor_of, number_left_at}
-
--- a state that goes on, ends at one, or is refused
-says_on : (s t u : ReaderState) (x says : ℕ) (row : Octets) → says ≡ 0 → step_of (left_in s row) x ≡ goes says (left_in t row) (left_in u row) → step_of (left_in s row) x ≡ turn_step 0 (said_in t row) (left_in t row)
-unfolding goes turn_step
-says_on s t u x says row q e = e ∙ ap (λ n. goes n (left_in t row) (left_in u row)) q
-
-says_ended : (s t u : ReaderState) (x says : ℕ) (row : Octets) → says ≡ 1 → step_of (left_in s row) x ≡ goes says (left_in t row) (left_in u row) → step_of (left_in s row) x ≡ turn_step 0 (said_in u row) (left_in u row)
-unfolding goes turn_step
-says_ended s t u x says row q e = e ∙ ap (λ n. goes n (left_in t row) (left_in u row)) q
-
-says_refused : (s t u : ReaderState) (x says : ℕ) (row : Octets) → (says ≡ 0 → ⊥) → (says ≡ 1 → ⊥) → step_of (left_in s row) x ≡ goes says (left_in t row) (left_in u row) → step_of (left_in s row) x ≡ turn_step says (said_in s row) (left_in s row)
-unfolding goes turn_step
-says_refused s t u x says row p q e = e ∙ rw (ne_eqb says 0 p, ne_eqb says 1 q) refl
+use Rattle.report_turns.specs.code.Values.{least_of, most_of, floor_of, read_in, number_left_at}
 
 -- ------------------------------------------------------------------ a text
 
@@ -56,56 +47,64 @@ unfolding is_broken within_identifier between
 calm_value n i a b = rw (lt-leb n 31 (omega (arith, a)), le-leb 24 n (omega (arith, a)), lt-leb n 50 (omega (arith, a)), le-leb 48 n (omega (arith, a)), lt-leb 61 n b) refl
 
 module _ (s : ReaderState) (a : 52 ≤ s.node) (b : s.node < 55) where
-  text_on : (x says at length : ℕ) (row : Octets) → step_of (text_left {R = Said} s.length s.at) x ≡ meant says (text_left length at) tt
-      → step_of (left_in s row) x ≡ goes says (left_in (longer at length s.label s) row) (left_in (arrived (s.node - 51) s) row)
-  unfolding place_of kept_of known_of longer left_at arrive by handed
-  text_on x says at length row e =
+  abbrev pub TextSays : (x : ℕ) → Result (Leaf TextPlace) Refusal → Type 0
+  TextSays x r = step_of (text_left {R = Said} s.length s.at) x ≡ said text_at tt r
+
+  text_on : (x : ℕ) (r : Result (Leaf TextPlace) Refusal) (row : Octets) → TextSays x r
+      → step_of (left_in s row) x ≡ goes (λ q. left_in (longer q.at q.length s.label s) row) (left_in (arrived (s.node - 51) s) row) r
+  unfolding place_of kept_of known_of longer left_at arrive by handed text_at ◌>>◌
+  text_on x r row e =
       let (t, is, to) = text_node_at s.node a b in
       let calm = calm_value s.node s.identifiers (omega (arith, a)) (omega (arith, b)) in
       ap (λ u. step_of u x) (left_other s row calm (λ q. omega (arith, q, b)) ∙ ap (λ m. left_at m (place_of s) (kept_of s row)) is)
-      ∙ text_step (place_of s) (place_of (longer at length s.label s)) (kept_of s row) x says t e
-      ∙ (λ j. goes says
-      ((sym (left_other (longer at length s.label s) row calm (λ q. omega (arith, q, b)) ∙ ap (λ m. left_at m (place_of (longer at length s.label s)) (kept_of (longer at length s.label s) row)) is)) j)
-      ((ap arrive (to (known_of s row)) ∙ sym (lands (s.node - 51) s row (calm_below (s.node - 51) s.identifiers (omega (arith, b))) (λ q. omega (arith, q, b)))) j))
+      ∙ text_step (place_of s) (kept_of s row) x t r e
+      ∙ (λ j. goes
+      (λ q. (sym (left_other (longer q.at q.length s.label s) row calm (λ h. omega (arith, h, b)) ∙ ap (λ m. left_at m (place_of (longer q.at q.length s.label s)) (kept_of (longer q.at q.length s.label s) row)) is)) j)
+      ((ap arrive (to (known_of s row)) ∙ sym (lands (s.node - 51) s row (calm_below (s.node - 51) s.identifiers (omega (arith, b))) (λ q. omega (arith, q, b)))) j)
+      r)
 
-  pub text_more : (x says at length : ℕ) → says ≡ 0 → step_of (text_left {R = Said} s.length s.at) x ≡ meant says (text_left length at) tt → Turned s false x (plain 0 (longer at length s.label s))
-  unfolding plain write unwritten laid_at laid
-  text_more x says at length q e row l f = says_on s (longer at length s.label s) (arrived (s.node - 51) s) x says row q (text_on x says at length row e)
+  pub text_more : (x : ℕ) (q : TextPlace) → TextSays x (Ok (Leaf.More q)) → Turned s false x (Ok (plain false (longer q.at q.length s.label s)))
+  unfolding goes turn_step plain write
+  text_more x q e row l f = text_on x (Ok (Leaf.More q)) row e
 
-  pub text_ended : (x says at length : ℕ) → says ≡ 1 → step_of (text_left {R = Said} s.length s.at) x ≡ meant says (text_left length at) tt → Turned s false x (plain 0 (arrived (s.node - 51) s))
-  unfolding plain write unwritten laid_at laid
-  text_ended x says at length q e row l f = says_ended s (longer at length s.label s) (arrived (s.node - 51) s) x says row q (text_on x says at length row e)
+  pub text_ended : (x : ℕ) → TextSays x (Ok Leaf.Ended) → Turned s false x (Ok (plain false (arrived (s.node - 51) s)))
+  unfolding goes turn_step plain write
+  text_ended x e row l f = text_on x (Ok Leaf.Ended) row e
 
-  pub text_refused : (x says at length : ℕ) → (says ≡ 0 → ⊥) → (says ≡ 1 → ⊥) → step_of (text_left {R = Said} s.length s.at) x ≡ meant says (text_left length at) tt → Turned s false x (plain says s)
-  unfolding plain write unwritten laid_at laid
-  text_refused x says at length p q e row l f = says_refused s (longer at length s.label s) (arrived (s.node - 51) s) x says row p q (text_on x says at length row e)
+  pub text_refused : (x : ℕ) (r : Refusal) → TextSays x (Err r) → Turned s false x (Err r)
+  unfolding goes turn_step
+  text_refused x r e row l f = text_on x (Err r) row e
 
 -- ------------------------------------------------------------------ an id
 
 module _ (s : ReaderState) (a : s.node ≡ 55) where
-  id_on : (x says length : ℕ) (row : Octets) → step_of (id_left {R = Said} s.length) x ≡ meant says (id_left length) tt
-      → step_of (left_in s row) x ≡ goes says (left_in (longer s.at length s.label s) row) (left_in (arrived 4 s) row)
-  unfolding place_of kept_of known_of longer left_at node_of nodes from
-  id_on x says length row e =
+  abbrev pub IdSays : (x : ℕ) → Result (Leaf ℕ) Refusal → Type 0
+  IdSays x r = step_of (id_left {R = Said} s.length) x ≡ said id_left tt r
+
+  id_on : (x : ℕ) (r : Result (Leaf ℕ) Refusal) (row : Octets) → IdSays x r
+      → step_of (left_in s row) x ≡ goes (λ length. left_in (longer s.at length s.label s) row) (left_in (arrived 4 s) row) r
+  unfolding place_of kept_of known_of longer left_at node_of nodes from ◌>>◌
+  id_on x r row e =
       let calm = calm_value s.node s.identifiers (omega (arith, a)) (omega (arith, a)) in
       let is : node_of s.node ≡ id_node = ap node_of a in
       ap (λ u. step_of u x) (left_other s row calm (λ q. omega (arith, q, a)) ∙ ap (λ m. left_at m (place_of s) (kept_of s row)) is)
-      ∙ id_step (place_of s) (place_of (longer s.at length s.label s)) (kept_of s row) x says e
-      ∙ (λ j. goes says
-      ((sym (left_other (longer s.at length s.label s) row calm (λ q. omega (arith, q, a)) ∙ ap (λ m. left_at m (place_of (longer s.at length s.label s)) (kept_of (longer s.at length s.label s) row)) is)) j)
-      ((sym (lands 4 s row (calm_below 4 s.identifiers (omega arith)) (λ q. omega (arith, q)))) j))
+      ∙ id_step (place_of s) (kept_of s row) x r e
+      ∙ (λ j. goes
+      (λ length. (sym (left_other (longer s.at length s.label s) row calm (λ q. omega (arith, q, a)) ∙ ap (λ m. left_at m (place_of (longer s.at length s.label s)) (kept_of (longer s.at length s.label s) row)) is)) j)
+      ((sym (lands 4 s row (calm_below 4 s.identifiers (omega arith)) (λ q. omega (arith, q)))) j)
+      r)
 
-  pub id_more : (x says length : ℕ) → says ≡ 0 → step_of (id_left {R = Said} s.length) x ≡ meant says (id_left length) tt → Turned s false x (plain 0 (longer s.at length s.label s))
-  unfolding plain write unwritten laid_at laid
-  id_more x says length q e row l f = says_on s (longer s.at length s.label s) (arrived 4 s) x says row q (id_on x says length row e)
+  pub id_more : (x length : ℕ) → IdSays x (Ok (Leaf.More length)) → Turned s false x (Ok (plain false (longer s.at length s.label s)))
+  unfolding goes turn_step plain write
+  id_more x length e row l f = id_on x (Ok (Leaf.More length)) row e
 
-  pub id_ended : (x says length : ℕ) → says ≡ 1 → step_of (id_left {R = Said} s.length) x ≡ meant says (id_left length) tt → Turned s false x (plain 0 (arrived 4 s))
-  unfolding plain write unwritten laid_at laid
-  id_ended x says length q e row l f = says_ended s (longer s.at length s.label s) (arrived 4 s) x says row q (id_on x says length row e)
+  pub id_ended : (x : ℕ) → IdSays x (Ok Leaf.Ended) → Turned s false x (Ok (plain false (arrived 4 s)))
+  unfolding goes turn_step plain write
+  id_ended x e row l f = id_on x (Ok Leaf.Ended) row e
 
-  pub id_refused : (x says length : ℕ) → (says ≡ 0 → ⊥) → (says ≡ 1 → ⊥) → step_of (id_left {R = Said} s.length) x ≡ meant says (id_left length) tt → Turned s false x (plain says s)
-  unfolding plain write unwritten laid_at laid
-  id_refused x says length p q e row l f = says_refused s (longer s.at length s.label s) (arrived 4 s) x says row p q (id_on x says length row e)
+  pub id_refused : (x : ℕ) (r : Refusal) → IdSays x (Err r) → Turned s false x (Err r)
+  unfolding goes turn_step
+  id_refused x r e row l f = id_on x (Err r) row e
 
 -- ------------------------------------------------------------------ a number
 
@@ -137,69 +136,44 @@ module _ (s : ReaderState) where
       go (suc (suc (suc m))) e = absurd (omega (arith, e, a, b))
 
   module _ (a : 56 ≤ s.node) (b : s.node < 59) where
-    abbrev Says : (x says value : ℕ) → Type 0
-    Says x says v = step_of (number_left {R = Said} (least_of s.node) (most_of s.node) (floor_of s) s.value (is_set s.some)) x ≡ meant says (number_left (least_of s.node) (most_of s.node) (floor_of s) v true) v
+    abbrev pub NumberSays : (x v : ℕ) → Result (Leaf ℕ) Refusal → Type 0
+    NumberSays x v r = step_of (number_left {R = Said} (least_of s.node) (most_of s.node) (floor_of s) s.value (is_set s.some)) x ≡ said (λ u. number_left (least_of s.node) (most_of s.node) (floor_of s) u true) v r
 
-    number_on : (x says v : ℕ) (row : Octets) → Says x says v → step_of (left_in s row) x ≡ goes says (left_in (at_number v s) row) (left_in (number_left_at s v) row)
+    number_on : (x v : ℕ) (r : Result (Leaf ℕ) Refusal) (row : Octets) → NumberSays x v r → step_of (left_in s row) x ≡ goes (λ u. left_in (at_number u s) row) (left_in (number_left_at s v) row) r
     unfolding place_of kept_of known_of at_number left_at floor_of number_left_at is_set
-    number_on x says v row e =
+    number_on x v r row e =
         let (n, is, low, high, base, to) = number_at a b in
         let calm = calm_value s.node s.identifiers (omega (arith, a)) (omega (arith, b)) in
         ap (λ u. step_of u x) (left_other s row calm (λ q. omega (arith, q, b)) ∙ ap (λ m. left_at m (place_of s) (kept_of s row)) is)
-        ∙ number_step (place_of s) (place_of (at_number v s)) (kept_of s row) x says n refl
-        (subst {A = ℕ × ℕ × ℕ} (λ w. step_of (number_left {R = Said} w.0 w.1 w.2 s.value (is_set s.some)) x ≡ meant says (number_left w.0 w.1 w.2 v true) v) (λ j. (low j, high j, base row j)) e)
-        ∙ (λ j. goes says
-        ((sym (left_other (at_number v s) row calm (λ q. omega (arith, q, b)) ∙ ap (λ m. left_at m (place_of (at_number v s)) (kept_of (at_number v s) row)) is)) j)
-        (to row v j))
+        ∙ number_step (place_of s) (kept_of s row) x n v r
+        (subst {A = ℕ × ℕ × ℕ} (λ w. step_of (number_left {R = Said} w.0 w.1 w.2 s.value (is_set s.some)) x ≡ said (λ u. number_left w.0 w.1 w.2 u true) v r) (λ j. (low j, high j, base row j)) e)
+        ∙ (λ j. goes
+        (λ u. (sym (left_other (at_number u s) row calm (λ q. omega (arith, q, b)) ∙ ap (λ m. left_at m (place_of (at_number u s)) (kept_of (at_number u s) row)) is)) j)
+        (to row v j)
+        r)
 
-    pub number_more : (x says v : ℕ) → says ≡ 0 → Says x says v → Turned s false x (plain 0 (at_number v s))
-    unfolding plain write unwritten laid_at laid
-    number_more x says v q e row l f = says_on s (at_number v s) (number_left_at s v) x says row q (number_on x says v row e)
+    pub number_more : (x v u : ℕ) → NumberSays x v (Ok (Leaf.More u)) → Turned s false x (Ok (plain false (at_number u s)))
+    unfolding goes turn_step plain write
+    number_more x v u e row l f = number_on x v (Ok (Leaf.More u)) row e
 
-    pub number_ended : (x says v : ℕ) → says ≡ 1 → Says x says v → Turned s false x (plain 0 (number_left_at s v))
-    unfolding plain write unwritten laid_at laid
-    number_ended x says v q e row l f = says_ended s (at_number v s) (number_left_at s v) x says row q (number_on x says v row e)
+    pub number_ended : (x v : ℕ) → NumberSays x v (Ok Leaf.Ended) → Turned s false x (Ok (plain false (number_left_at s v)))
+    unfolding goes turn_step plain write
+    number_ended x v e row l f = number_on x v (Ok Leaf.Ended) row e
 
-    pub number_refused : (x says v : ℕ) → (says ≡ 0 → ⊥) → (says ≡ 1 → ⊥) → Says x says v → Turned s false x (plain says s)
-    unfolding plain write unwritten laid_at laid
-    number_refused x says v p q e row l f = says_refused s (at_number v s) (number_left_at s v) x says row p q (number_on x says v row e)
+    pub number_refused : (x v : ℕ) (r : Refusal) → NumberSays x v (Err r) → Turned s false x (Err r)
+    unfolding goes turn_step
+    number_refused x v r e row l f = number_on x v (Err r) row e
 
--- ------------------------------------------------------------------ as the code says them
-
-module _ (n : ℕ) where
-  pub least_count : n ≡ 58 → 1 ≡ least_of n
-  unfolding least_of
-  least_count e = rw (eq-eqb n 58 e) refl
-
-  pub least_time : (n ≡ 58 → ⊥) → 0 ≡ least_of n
-  unfolding least_of
-  least_time e = rw (ne_eqb n 58 e) refl
-
-  pub most_count : n ≡ 58 → 4294967295 ≡ most_of n
-  unfolding most_of
-  most_count e = rw (eq-eqb n 58 e) refl
-
-  pub most_time : (n ≡ 58 → ⊥) → 18446744073709551615 ≡ most_of n
-  unfolding most_of
-  most_time e = rw (ne_eqb n 58 e) refl
-
-module _ (s : ReaderState) where
-  pub floor_end : s.node ≡ 57 → s.begin ≡ floor_of s
-  unfolding floor_of
-  floor_end e = rw (eq-eqb s.node 57 e)
-
-  pub floor_none : (s.node ≡ 57 → ⊥) → 0 ≡ floor_of s
-  unfolding floor_of
-  floor_none e = rw (ne_eqb s.node 57 e)
-
-  pub left_begin : (v : ℕ) → s.node ≡ 56 → arrived 5 (valued v s.count s) ≡ number_left_at s v
-  unfolding number_left_at
-  left_begin v e = rw (eq-eqb s.node 56 e)
-
-  pub left_end : (v : ℕ) → s.node ≡ 57 → arrived 6 s ≡ number_left_at s v
-  unfolding number_left_at
-  left_end v e = rw (ne_eqb s.node 56 (λ q. omega (arith, q, e)), eq-eqb s.node 57 e)
-
-  pub left_count : (v : ℕ) → (s.node ≡ 56 → ⊥) → (s.node ≡ 57 → ⊥) → arrived 16 (valued s.begin v s) ≡ number_left_at s v
-  unfolding number_left_at
-  left_count v e f = rw (ne_eqb s.node 56 e, ne_eqb s.node 57 f)
+  -- as the code says it, of what is read
+  pub read_number : (least most floor : ℕ) (o : Option ℕ) (x : ℕ) (r : Result (Leaf ℕ) Refusal)
+      → least ≡ least_of s.node → most ≡ most_of s.node → floor ≡ floor_of s → o ≡ read_in s
+      → step_of (number_left {R = Said} least most floor (unwrap_or o 0) (is_some o)) x ≡ said (λ u. number_left least most floor u true) (unwrap_or o 0) r
+      → step_of (number_left {R = Said} (least_of s.node) (most_of s.node) (floor_of s) s.value (is_set s.some)) x ≡ said (λ u. number_left (least_of s.node) (most_of s.node) (floor_of s) u true) (unwrap_or o 0) r
+  unfolding read_in number_left digits_of
+  read_number least most floor o x r a b d q e =
+      sym (ap (λ t. step_of t x) (ap (λ p. number_left {R = Said} (least_of s.node) (most_of s.node) (floor_of s) (unwrap_or p 0) (is_some p)) q ∙ same (is_set s.some)))
+      ∙ subst {A = ℕ × ℕ × ℕ} (λ w. step_of (number_left {R = Said} w.0 w.1 w.2 (unwrap_or o 0) (is_some o)) x ≡ said (λ u. number_left w.0 w.1 w.2 u true) (unwrap_or o 0) r) (λ j. (a j, b j, d j)) e
+    where
+      same : (b : Bool) → number_left {R = Said} (least_of s.node) (most_of s.node) (floor_of s) (unwrap_or (if b then Some s.value else None) 0) (is_some (if b then Some s.value else None)) ≡ number_left (least_of s.node) (most_of s.node) (floor_of s) s.value b
+      same true = refl
+      same false = refl

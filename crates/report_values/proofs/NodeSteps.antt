@@ -5,7 +5,7 @@ use mathlib.Core.Bool.{Bool, true, false, false≢true}
 use Prim.Native.Nat.{ℕ, zero, suc, ◌-◌, ◌+◌}
 use lib.Dec.{eqb, leb, ltb}
 use lib.ListN.{get_or}
-use Rattle.std.specs.Prelude.{if◌then◌else◌}
+use Rattle.std.specs.Prelude.{Result, Ok, Err}
 use Rattle.octets.specs.Octets.{Octets, octets}
 use Rattle.parsing.specs.Reads.{Reads, done, give, next, ◌>>=◌, ◌>>◌, octet_where}
 use Rattle.parsing_steps.specs.Stepping.{Step, on, refused, step_of, takes, then_on, behind}
@@ -13,22 +13,29 @@ use Rattle.parsing_steps.proofs.StepLaws.{step_bind, done_on, takes_behind}
 use Rattle.report_form.specs.ReportForm.{Said}
 use Rattle.report_form.specs.code.ReportReading.{reading_entity as entity, one_word, text_from, id_from, digits_more as number_from, name_allows, name_from}
 use Rattle.report_states.specs.Standing.{Place, Literal, Word, Text, Number, Name, literal_node, word_node, text_node, id_node, number_node, name_node, Kept, arrive, literal_text, words, literal_goes, word_goes, text_goes, number_goes, name_goes, from_literal, l_id_end, entity_rest, in_entity, text_left, id_left, number_left, least, most, floor, name_left, word_left, left_at}
-use Rattle.report_leaves.specs.code.Leaves.{meant, Names}
+use Rattle.report_leaves.specs.code.Leaves.{said, text_at}
+use Rattle.report_leaves.specs.declared.TextPlace.{TextPlace}
+use Rattle.report_leaves.specs.declared.NamePlace.{NamePlace}
+use Rattle.report_steps.specs.declared.Leaf.{Leaf}
+use Rattle.report_steps.specs.declared.Refusal.{Refusal}
+use Rattle.report_steps.specs.code.Steps.{refusal_number}
 
--- 0 the program goes on so, 1 so, else refused with that number
-unfoldable pub goes : ℕ → Reads Said (Unit {0}) → Reads Said (Unit {0}) → Step Said (Unit {0})
-goes says t u = if eqb says 0 then on t else if eqb says 1 then on u else refused says
+-- the program goes on as what is left where so much is read, or so, or it is refused
+unfoldable pub goes : {P : Type 0} → (P → Reads Said (Unit {0})) → Reads Said (Unit {0}) → Result (Leaf P) Refusal → Step Said (Unit {0})
+goes left u (Ok (Leaf.More p)) = on (left p)
+goes left u (Ok Leaf.Ended) = on u
+goes left u (Err r) = refused (refusal_number r)
 
-module _ {A : Type 0} (t t' : Reads Said A) (a : A) (f : A → Reads Said (Unit {0})) (x says : ℕ) where
+module _ {A P : Type 0} (t : Reads Said A) (left : P → Reads Said A) (a : A) (f : A → Reads Said (Unit {0})) (x : ℕ) (r : Result (Leaf P) Refusal) where
   -- a leaf, and what stands behind it
-  pub leaf_step : takes t ≡ true → step_of t x ≡ meant says t' a → step_of (t >>= f) x ≡ goes says (t' >>= f) (f a)
-  unfolding meant goes then_on
-  leaf_step h e = step_bind t f x h ∙ ap (λ s. then_on s f) e ∙ go (eqb says 0) (eqb says 1)
+  pub leaf_step : takes t ≡ true → step_of t x ≡ said left a r → step_of (t >>= f) x ≡ goes (λ p. left p >>= f) (f a) r
+  unfolding said goes then_on
+  leaf_step h e = step_bind t f x h ∙ ap (λ s. then_on s f) e ∙ go r
     where
-      go : (b c : Bool) → then_on (if b then on t' else if c then on (done a) else refused says) f ≡ (if b then on (t' >>= f) else if c then on (f a) else refused says)
-      go true c = refl
-      go false true = ap on (done_on a f)
-      go false false = refl
+      go : (r : Result (Leaf P) Refusal) → then_on (said left a r) f ≡ goes (λ p. left p >>= f) (f a) r
+      go (Ok (Leaf.More p)) = refl
+      go (Ok Leaf.Ended) = ap on (done_on a f)
+      go (Err r) = refl
 
 -- ------------------------------------------------------------------ every leaf takes an octet
 
@@ -70,51 +77,52 @@ takes_number_from (suc n) l m ends v some = refl
 
 -- ------------------------------------------------------------------ places
 
-module _ (p p' : Place) (k : Kept) (x says : ℕ) where
+module _ (p p' : Place) (k : Kept) (x : ℕ) where
   -- a literal: one octet further, or where it leads
-  pub literal_step : (l : Literal) → p'.at ≡ p.at + 1 → step_of (behind {R = Said} p.at (octets (literal_text l))) x ≡ meant says (behind (p.at + 1) (octets (literal_text l))) tt
-      → step_of (left_at (literal_node l) p k) x ≡ goes says (left_at (literal_node l) p' k) (arrive (literal_goes l k.known))
+  pub literal_step : (l : Literal) (r : Result (Leaf (Unit {0})) Refusal) → p'.at ≡ p.at + 1 → step_of (behind {R = Said} p.at (octets (literal_text l))) x ≡ said (λ _. behind (p.at + 1) (octets (literal_text l))) tt r
+      → step_of (left_at (literal_node l) p k) x ≡ goes (λ _. left_at (literal_node l) p' k) (arrive (literal_goes l k.known)) r
   unfolding left_at ◌>>◌
-  literal_step l q e =
-      leaf_step (behind p.at (octets (literal_text l))) (behind (p.at + 1) (octets (literal_text l))) tt _ x says (takes_behind Said p.at (octets (literal_text l))) e
-      ∙ ap (λ i. goes says (behind i (octets (literal_text l)) >>= (λ _. arrive (literal_goes l k.known))) (arrive (literal_goes l k.known))) (sym q)
+  literal_step l r q e =
+      leaf_step (behind p.at (octets (literal_text l))) (λ _. behind (p.at + 1) (octets (literal_text l))) tt _ x r (takes_behind Said p.at (octets (literal_text l))) e
+      ∙ ap (λ i. goes (λ _. behind i (octets (literal_text l)) >>= (λ _. arrive (literal_goes l k.known))) (arrive (literal_goes l k.known)) r) (sym q)
 
   -- a word behind its first octet
-  pub word_step : (w : Word) (j : ℕ) → p.which ≡ suc j → p'.which ≡ suc j → p'.at ≡ p.at + 1
-      → step_of (behind {R = Said} p.at (octets (get_or (words w) j ""))) x ≡ meant says (behind (p.at + 1) (octets (get_or (words w) j ""))) tt
-      → step_of (left_at (word_node w) p k) x ≡ goes says (left_at (word_node w) p' k) (arrive (word_goes w k.known j))
+  pub word_step : (w : Word) (j : ℕ) (r : Result (Leaf (Unit {0})) Refusal) → p.which ≡ suc j → p'.which ≡ suc j → p'.at ≡ p.at + 1
+      → step_of (behind {R = Said} p.at (octets (get_or (words w) j ""))) x ≡ said (λ _. behind (p.at + 1) (octets (get_or (words w) j ""))) tt r
+      → step_of (left_at (word_node w) p k) x ≡ goes (λ _. left_at (word_node w) p' k) (arrive (word_goes w k.known j)) r
   unfolding left_at word_left ◌>>◌
-  word_step w j c d q e =
+  word_step w j r c d q e =
       ap (λ i. step_of (word_left w k.known i p.at) x) c
-      ∙ leaf_step (behind p.at (octets (get_or (words w) j ""))) (behind (p.at + 1) (octets (get_or (words w) j ""))) tt _ x says (takes_behind Said p.at (octets (get_or (words w) j ""))) e
-      ∙ (λ i. goes says (word_left w k.known (sym d i) (sym q i)) (arrive (word_goes w k.known j)))
+      ∙ leaf_step (behind p.at (octets (get_or (words w) j ""))) (λ _. behind (p.at + 1) (octets (get_or (words w) j ""))) tt _ x r (takes_behind Said p.at (octets (get_or (words w) j ""))) e
+      ∙ (λ i. goes (λ _. word_left w k.known (sym d i) (sym q i)) (arrive (word_goes w k.known j)) r)
 
-  pub text_step : (t : Text) → step_of (text_left {R = Said} p.length p.at) x ≡ meant says (text_left p'.length p'.at) tt
-      → step_of (left_at (text_node t) p k) x ≡ goes says (left_at (text_node t) p' k) (arrive (text_goes t k.known))
+-- a text, an id, a number or a name, by what is left of it where so much is read
+module _ (p : Place) (k : Kept) (x : ℕ) where
+  pub text_step : (t : Text) (r : Result (Leaf TextPlace) Refusal) → step_of (text_left {R = Said} p.length p.at) x ≡ said text_at tt r
+      → step_of (left_at (text_node t) p k) x ≡ goes (λ q. text_at q >>= (λ _. arrive (text_goes t k.known))) (arrive (text_goes t k.known)) r
   unfolding left_at ◌>>◌
-  text_step t e = leaf_step (text_left p.length p.at) (text_left p'.length p'.at) tt _ x says (takes_text p.length p.at) e
+  text_step t r e = leaf_step (text_left p.length p.at) text_at tt _ x r (takes_text p.length p.at) e
 
-  pub id_step : step_of (id_left {R = Said} p.length) x ≡ meant says (id_left p'.length) tt
-      → step_of (left_at id_node p k) x ≡ goes says (left_at id_node p' k) (from_literal l_id_end k.known)
+  pub id_step : (r : Result (Leaf ℕ) Refusal) → step_of (id_left {R = Said} p.length) x ≡ said id_left tt r
+      → step_of (left_at id_node p k) x ≡ goes (λ n. id_left n >>= (λ _. from_literal l_id_end k.known)) (from_literal l_id_end k.known) r
   unfolding left_at id_left ◌>>◌
-  id_step e = leaf_step (id_left p.length) (id_left p'.length) tt _ x says (takes_id_from (64 - p.length) (ltb 0 p.length)) e
+  id_step r e = leaf_step (id_left p.length) id_left tt _ x r (takes_id_from (64 - p.length) (ltb 0 p.length)) e
 
-  pub number_step : (n : Number) → p'.some ≡ true → step_of (number_left {R = Said} (least n) (most n) (floor n k.known) p.value p.some) x ≡ meant says (number_left (least n) (most n) (floor n k.known) p'.value true) p'.value
-      → step_of (left_at (number_node n) p k) x ≡ goes says (left_at (number_node n) p' k) (arrive (number_goes n k.known p'.value))
+  pub number_step : (n : Number) (v : ℕ) (r : Result (Leaf ℕ) Refusal) → step_of (number_left {R = Said} (least n) (most n) (floor n k.known) p.value p.some) x ≡ said (λ u. number_left (least n) (most n) (floor n k.known) u true) v r
+      → step_of (left_at (number_node n) p k) x ≡ goes (λ u. number_left (least n) (most n) (floor n k.known) u true >>= (λ w. arrive (number_goes n k.known w))) (arrive (number_goes n k.known v)) r
   unfolding left_at number_left
-  number_step n q e =
-      leaf_step (number_left (least n) (most n) (floor n k.known) p.value p.some) (number_left (least n) (most n) (floor n k.known) p'.value true) p'.value (λ v. arrive (number_goes n k.known v)) x says
+  number_step n v r e =
+      leaf_step (number_left (least n) (most n) (floor n k.known) p.value p.some) (λ u. number_left (least n) (most n) (floor n k.known) u true) v (λ w. arrive (number_goes n k.known w)) x r
       (takes_number_from _ (least n) (most n) (leb (floor n k.known)) _ p.some) e
-      ∙ ap (λ b. goes says (number_left (least n) (most n) (floor n k.known) p'.value b >>= (λ v. arrive (number_goes n k.known v))) (arrive (number_goes n k.known p'.value))) (sym q)
 
   -- a name: what was read of it is then an octet longer
-  pub name_step : (n : Name) (k' : Kept) → k'.known ≡ k.known → k'.so_far ≡ k.so_far ++ (x ∷ []) → Names p.length p.label x says p'.length p'.label
-      → step_of (left_at (name_node n) p k) x ≡ goes says (left_at (name_node n) p' k') (arrive (name_goes n k.known k.so_far))
+  pub name_step : (n : Name) (r : Result (Leaf NamePlace) Refusal)
+      → step_of (name_left {R = Said} p.length p.label k.so_far) x ≡ said (λ q. name_left q.length q.label (k.so_far ++ (x ∷ []))) k.so_far r
+      → step_of (left_at (name_node n) p k) x ≡ goes (λ q. name_left q.length q.label (k.so_far ++ (x ∷ [])) >>= (λ v. arrive (name_goes n k.known v))) (arrive (name_goes n k.known k.so_far)) r
   unfolding left_at name_left
-  name_step n k' q s e =
-      leaf_step (name_left p.length p.label k.so_far) (name_left p'.length p'.label (k.so_far ++ (x ∷ []))) k.so_far (λ v. arrive (name_goes n k.known v)) x says
-      (takes_name_from (253 - p.length) p.label k.so_far) (e k.so_far)
-      ∙ (λ i. goes says (name_left p'.length p'.label (sym s i) >>= (λ v. arrive (name_goes n (sym q i) v))) (arrive (name_goes n k.known k.so_far)))
+  name_step n r e =
+      leaf_step (name_left p.length p.label k.so_far) (λ q. name_left q.length q.label (k.so_far ++ (x ∷ []))) k.so_far (λ v. arrive (name_goes n k.known v)) x r
+      (takes_name_from (253 - p.length) p.label k.so_far) e
 
 -- ------------------------------------------------------------------ a name that is not kept
 

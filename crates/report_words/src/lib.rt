@@ -4,9 +4,11 @@
 ghost use Rattle.std.specs.Prelude.{◌≡◌, ◌+◌, [], slice_index_or};
 ghost use Rattle.parsing_steps.specs.Stepping.{step_of, behind};
 ghost use Rattle.report_form.specs.ReportForm.{Said};
-ghost use Rattle.report_leaves.specs.code.Leaves.{meant};
+ghost use Rattle.report_leaves.specs.code.Leaves.{said};
 ghost use Rattle.report_form.specs.code.ReportReading.{first_is};
 ghost use Rattle.report_words.specs.code.Table.{texts, pick_octets, words_at};
+
+use report_steps::{Leaf, Refusal};
 
 // The literals, and the words of each word node, one after the other, and where each begins.
 pub const TEXTS: [u8; 972] =
@@ -24,39 +26,27 @@ pub const BEGINS: [u16; 78] = [
 const FIRSTS: [u8; 77] =
     *b"<///////<<<<<<<//<f<fp</<<//<</<<<<<ernqrsnanqrnanqrrsrsnypnqrfpfpds/fptfptr/";
 
-const GOES_ON: u8 = 0;
-
-const ENDED: u8 = 1;
-
-const OUTSIDE: u8 = 20;
-
-// The place of no word.
-const NO_WORD: u8 = 255;
-
-// An octet of a text behind `at` octets: 0 it is the next, 1 it is the last, 20 it is another or the text has ended.
-pub fn step_behind(text: &[u8], at: u8, x: u8) -> u8
-    ensures { step_of (behind {R = Said} at text.now) x ≡ meant result (behind (at + 1) text.now) tt }
+// An octet of a text behind `at` octets: it is the next, or the last.
+pub fn step_behind(text: &[u8], at: u8, x: u8) -> Result<Leaf<()>, Refusal>
+    ensures { step_of (behind {R = Said} at text.now) x ≡ said (λ _. behind (at + 1) text.now) tt result }
 {
     let i = at as usize;
-    if text.len() <= i {
-        return OUTSIDE;
+    if i < text.len() && text[i] == x {
+        if text.len() == i + 1 {
+            Ok(Leaf::Ended)
+        } else {
+            Ok(Leaf::More(()))
+        }
+    } else {
+        Err(Refusal::Outside)
     }
-    if text[i] != x {
-        return OUTSIDE;
-    }
-    if text.len() == i + 1 {
-        return ENDED;
-    }
-    GOES_ON
 }
 
 // An octet of the literal or word of that number.
-pub fn step_piece(n: u8, at: u8, x: u8) -> u8
-    ensures { step_of (behind {R = Said} at (slice_index_or texts n [])) x ≡ meant result (behind (at + 1) (slice_index_or texts n [])) tt }
+pub fn step_piece(n: u8, at: u8, x: u8) -> Result<Leaf<()>, Refusal>
+    ensures { step_of (behind {R = Said} at (slice_index_or texts n [])) x ≡ said (λ _. behind (at + 1) (slice_index_or texts n [])) tt result }
 {
-    let all = TEXTS;
-    let begins = BEGINS;
-    step_behind(octets_pieces::find_piece(&all, &begins, n), at, x)
+    step_behind(octets_pieces::find_piece(&TEXTS, &BEGINS, n), at, x)
 }
 
 // Whether the literal or word of that number begins with an octet.
@@ -65,39 +55,17 @@ fn piece_begins(n: u8, x: u8) -> bool
 {
     let firsts = FIRSTS;
     let i = n as usize;
-    if 77 <= i {
-        return false;
-    }
-    x == firsts[i]
+    i < firsts.len() && x == firsts[i]
 }
 
-// Which of at most four words, from a number on, an octet begins: its place among them, or 255.
-pub fn pick_word(first: u8, count: u8, x: u8) -> u8
+// Which of at most four words, from a number on, an octet begins: its place among them.
+pub fn pick_word(first: u8, count: u8, x: u8) -> Option<u8>
     ensures { result ≡ pick_octets 0 x (words_at first count) }
 {
-    if count < 1 {
-        return NO_WORD;
+    for k in 0..count.min(4) {
+        if piece_begins(first.wrapping_add(k), x) {
+            return Some(k);
+        }
     }
-    if piece_begins(first, x) {
-        return 0;
-    }
-    if count < 2 {
-        return NO_WORD;
-    }
-    if piece_begins(std::num::wrapping_add_u8(first, 1), x) {
-        return 1;
-    }
-    if count < 3 {
-        return NO_WORD;
-    }
-    if piece_begins(std::num::wrapping_add_u8(first, 2), x) {
-        return 2;
-    }
-    if count < 4 {
-        return NO_WORD;
-    }
-    if piece_begins(std::num::wrapping_add_u8(first, 3), x) {
-        return 3;
-    }
-    NO_WORD
+    None
 }

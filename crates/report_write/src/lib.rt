@@ -10,7 +10,7 @@ ghost use Rattle.report.specs.Report.{report};
 ghost use Rattle.rows_gather.specs.code.Gathered.{row_of, rows_of};
 ghost use Rattle.report_write.specs.code.Records.{counted_element, Short, AllShort, IsBrief, AllBrief, text_of, WritesBrief};
 
-use octets::{Refusal, Written};
+use octets::Refusal;
 use policy::Settings;
 use rows_day::DayList;
 
@@ -18,57 +18,48 @@ use rows_day::DayList;
 const LONGEST: usize = 2592802;
 
 // The element of a row that has a count.
-fn put_counted<'a>(
-    row: &'a [u8],
-    authors: &'a [u8],
-    sets: &'a [u8],
-    at: usize,
-    out: &mut [u8],
-) -> usize
+fn put_counted(row: &[u8], authors: &[u8], sets: &[u8], at: usize, out: &mut [u8]) -> usize
     ensures { Puts (counted_element (record { authors = authors.now; sets = sets.now }) (row_of row.now)) at out.old result out.new × Short (row_of row.now) × IsBrief (row_of row.now) }
 {
     if rows_gather::number_at(row, 28) == 0 {
-        return at;
+        at
+    } else {
+        report_rows::put_record(row, authors, sets, at, out)
     }
-    report_rows::put_record(row, authors, sets, at, out)
 }
 
 // The elements of so many rows.
-fn put_records<'a>(
+fn put_records(
     count: usize,
-    rows: &'a [u8],
-    authors: &'a [u8],
-    sets: &'a [u8],
+    rows: &[u8],
+    authors: &[u8],
+    sets: &[u8],
     at: usize,
     out: &mut [u8],
 ) -> usize
     ensures { Puts (flatten (map (counted_element (record { authors = authors.now; sets = sets.now })) (rows_of count rows.now))) at out.old result out.new × AllShort (rows_of count rows.now) × AllBrief (rows_of count rows.now) }
 {
     let mut t = rows;
-    let mut more = count;
     let mut end = at;
-    while 0 < more {
-        let next = put_counted(t, authors, sets, end, out);
-        end = next;
-        let rest = text_parts::skip(t, 32);
-        t = rest;
-        more = more - 1;
+    for _ in 0..count {
+        end = put_counted(t, authors, sets, end, out);
+        t = text_parts::skip(t, 32);
     }
     end
 }
 
 // A report into the front of lent memory, and its length, counted on where there is no room.
-fn put_report<'a>(
-    domain: &'a [u8],
+fn put_report(
+    domain: &[u8],
     s: Settings,
     count: usize,
-    rows: &'a [u8],
-    authors: &'a [u8],
-    sets: &'a [u8],
-    organization: &'a [u8],
-    email: &'a [u8],
-    contact: &'a [u8],
-    id: &'a [u8],
+    rows: &[u8],
+    authors: &[u8],
+    sets: &[u8],
+    organization: &[u8],
+    email: &[u8],
+    contact: &[u8],
+    id: &[u8],
     begin: u64,
     end: u64,
     out: &mut [u8],
@@ -96,21 +87,21 @@ fn put_report<'a>(
 }
 
 // A report into the front of lent memory, if there is room.
-fn write_text<'a>(
-    domain: &'a [u8],
+fn write_text(
+    domain: &[u8],
     s: Settings,
     count: usize,
-    rows: &'a [u8],
-    authors: &'a [u8],
-    sets: &'a [u8],
-    organization: &'a [u8],
-    email: &'a [u8],
-    contact: &'a [u8],
-    id: &'a [u8],
+    rows: &[u8],
+    authors: &[u8],
+    sets: &[u8],
+    organization: &[u8],
+    email: &[u8],
+    contact: &[u8],
+    id: &[u8],
     begin: u64,
     end: u64,
     out: &mut [u8],
-) -> Written
+) -> Result<usize, Refusal>
     ensures { WritesBrief (rows_of count rows.now) (text_of domain.now s (record { authors = authors.now; sets = sets.now }) (record { organization = organization.now; email = email.now; contact = contact.now; id = id.now; begin = begin; end = end }) (rows_of count rows.now)) out.old result out.new }
 {
     if out.len() < LONGEST {
@@ -134,7 +125,7 @@ fn write_text<'a>(
             return octets_write::too_short(needed);
         }
     }
-    Written::Wrote(put_report(
+    Ok(put_report(
         domain,
         s,
         count,
@@ -152,33 +143,32 @@ fn write_text<'a>(
 }
 
 // A report into the front of lent memory, of the first so many rows of a list.
-pub fn write_report<'a>(
+pub fn write_report(
     list: DayList,
     s: Settings,
     count: usize,
-    rows: &'a [u8],
-    authors: &'a [u8],
-    sets: &'a [u8],
-    organization: &'a [u8],
-    email: &'a [u8],
-    contact: &'a [u8],
-    id: &'a [u8],
+    rows: &[u8],
+    authors: &[u8],
+    sets: &[u8],
+    organization: &[u8],
+    email: &[u8],
+    contact: &[u8],
+    id: &[u8],
     begin: u64,
     end: u64,
     out: &mut [u8],
-) -> Written
+) -> Result<usize, Refusal>
     ensures { WritesIf (report (listing list (rows_of (min count 256) rows.now)) (record { authors = authors.now; sets = sets.now }) (record { organization = organization.now; email = email.now; contact = contact.now; id = id.now; begin = begin; end = end }) s) out.old result out.new }
 {
     if list.cleared == 0 {
-        return Written::Refused(Refusal {
+        return Err(Refusal {
             number: 27,
             place: 0,
         });
     }
-    let name = list.domain;
-    let domain = text_parts::part(&name, 0, list.length as usize);
-    let most = text_parts::smaller(count, 256);
-    let fault = report_check::find_fault(
+    let domain = text_parts::part(&list.domain, 0, usize::from(list.length));
+    let most = count.min(256);
+    report_check::check(
         domain,
         most,
         rows,
@@ -190,13 +180,7 @@ pub fn write_report<'a>(
         id,
         begin,
         end,
-    );
-    if fault != 0 {
-        return Written::Refused(Refusal {
-            number: fault,
-            place: 0,
-        });
-    }
+    )?;
     write_text(
         domain,
         s,

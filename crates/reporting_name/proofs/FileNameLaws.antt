@@ -1,22 +1,22 @@
 -- Laws of the report file name.
 use mathlib.Core.Path.{◌≡◌, refl, sym, ◌∙◌}
-use mathlib.Core.List.{[], ◌++◌, append_assoc, append-nil}
+use mathlib.Core.List.{◌++◌, append_assoc}
 use mathlib.Core.Bool.{Bool, true, false, ◌&&◌, not, true≢false}
-use mathlib.Core.Option.{Option, none as nothing, some as just}
 use Prim.Native.Nat.{ℕ, ◌+◌, ◌^◌, ◌≤◌, ◌<◌}
 use native.Mathlib.Decide.{dec_le}
 use native.Mathlib.Omega.{arith}
 use native.Mathlib.Nat.{zero-add}
 use borrow.Author.Tests.{not-true, not-false}
 use lib.Dec.{leb}
+use Rattle.std.proofs.Common.{Bor}
+use Rattle.std.specs.Option.{option_copied}
+use Rattle.std.specs.Bool.{then_some}
 use lib.ListN.{length, length-append}
-use Rattle.std.specs.Prelude.{if◌then◌else◌}
+use Rattle.std.specs.Prelude.{Result, Ok, Err, Option, None, Some}
 use Rattle.octets.specs.Octets.{Octets, octets, lower}
 use Rattle.octets.specs.Decimal.{decimal}
 use Rattle.octets.specs.Lent.{Writes, WritesIf, written_if, left_if}
 use Rattle.octets.specs.Refusing.{refusal}
-use Rattle.octets.specs.declared.Written.{Written}
-use Rattle.octets.specs.declared.Written.TheVariants.{Wrote, Refused}
 use Rattle.octets.proofs.LentLaws.{refuses}
 use Rattle.octets_append.proofs.AppendLaws.{appends_whole}
 use Rattle.octets.proofs.DecimalLaws.{twenty_digits}
@@ -27,6 +27,7 @@ use Rattle.octets_pieces.proofs.PuttingLaws.{puts_both}
 use Rattle.domain.specs.Domain.{Domain, without_dot, is_domain}
 use Rattle.domain.proofs.RuleLaws.{domain_short}
 use Rattle.reporting.specs.FileName.{alphanumeric, good_id, given_id, good_id_if_any, good_report, domains_part, times_part, end_part, file_name_text, report_name, file_name}
+use Rattle.octets.specs.declared.Refusal.{Refusal}
 
 -- ------------------------------------------------------------------ how long it is
 
@@ -54,8 +55,8 @@ all_hold false b c d e = absurd (true≢false (sym e))
 
 id_short : (id : Option Octets) → good_id_if_any id ≡ true → length (end_part id) ≤ 69
 unfolding good_id_if_any good_id end_part octets
-id_short nothing e = omega arith
-id_short (just id) e = rw (length-append, length-append) (omega (arith, short))
+id_short None e = omega arith
+id_short (Some id) e = rw (length-append, length-append) (omega (arith, short))
   where
     short : length id ≤ 64
     short = go (dec_le (length id) 64)
@@ -75,7 +76,7 @@ name_short r p begin end id good h k =
 -- of the domains without their dots
 module _ (receiver policy_domain : Octets) {r p : Domain} (f : r ≡ without_dot receiver) (g : p ≡ without_dot policy_domain) (begin end : ℕ) (id : Option Octets) (before : Octets)
     {good : Bool} (e : good ≡ good_report r p begin end id) where
-  pub name_refused : not good ≡ true → WritesIf (file_name receiver policy_domain begin end id) before (Refused (refusal 11 0)) before
+  pub name_refused : not good ≡ true → WritesIf (file_name receiver policy_domain begin end id) before (Err (refusal 11 0)) before
   unfolding file_name report_name written_if left_if
   name_refused h = let bad = sym e ∙ not-true good h in record { answers = rw (← f, ← g, bad); leaves = rw (← f, ← g, bad) }
 
@@ -91,38 +92,42 @@ module _ (receiver policy_domain : Octets) {r p : Domain} (f : r ≡ without_dot
     unfolding text
     counted = q.counts (omega (arith, name_short r p begin end id is_good b k)) ∙ zero-add (length text)
 
-    by : {answer : Written} {after : Octets} → Writes text before answer after → WritesIf (file_name receiver policy_domain begin end id) before answer after
+    by : {answer : Result ℕ Refusal} {after : Octets} → Writes text before answer after → WritesIf (file_name receiver policy_domain begin end id) before answer after
     unfolding file_name report_name written_if left_if text
     by w = record { answers = rw (← f, ← g, is_good) w.answers; leaves = rw (← f, ← g, is_good) w.leaves }
 
-    pub name_too_long : length before < n → WritesIf (file_name receiver policy_domain begin end id) before (Refused (refusal 10 n)) before
-    name_too_long l = by (refuses text before (omega (arith, counted)) n counted (Refused (refusal 10 n)) refl)
+    pub name_too_long : length before < n → WritesIf (file_name receiver policy_domain begin end id) before (Err (refusal 10 n)) before
+    name_too_long l = by (refuses text before (omega (arith, counted)) n counted (Err (refusal 10 n)) refl)
 
     pub name_written : n ≤ length before → {next : ℕ} {after : Octets} → Puts (file_name_text r p begin end id) 0 before next after
-        → WritesIf (file_name receiver policy_domain begin end id) before (Wrote next) after
+        → WritesIf (file_name receiver policy_domain begin end id) before (Ok next) after
     unfolding text
     name_written l s = let room : length text ≤ length before = omega (arith, counted) in by (appends_whole text before room (s.appends (omega (arith, room))))
 
 -- ------------------------------------------------------------------ its parts, one after the other
 
-five_parts : (r m p b e i x : Octets) → (r ++ m) ++ (p ++ m) ++ (b ++ m) ++ (e ++ m) ++ (i ++ x) ≡ (r ++ m ++ p ++ m) ++ (b ++ m ++ e) ++ (m ++ i ++ x)
-five_parts r m p b e i x = simp append_assoc
+parts : (r m p b e i x : Octets) → (r ++ m) ++ (p ++ m) ++ (b ++ m) ++ (e ++ m) ++ (i ++ x) ≡ (r ++ m ++ p ++ m) ++ (b ++ m ++ e) ++ (m ++ i ++ x)
+parts r m p b e i x = simp append_assoc
 
-five_parts_unnamed : (r m p b e x : Octets) → (r ++ m) ++ (p ++ m) ++ (b ++ m) ++ (e ++ []) ++ ([] ++ x) ≡ (r ++ m ++ p ++ m) ++ (b ++ m ++ e) ++ x
-five_parts_unnamed r m p b e x = simp (append_assoc, append-nil)
+parts_alone : (r m p b e x : Octets) → (r ++ m) ++ (p ++ m) ++ (b ++ m) ++ (e ++ x) ≡ (r ++ m ++ p ++ m) ++ (b ++ m ++ e) ++ x
+parts_alone r m p b e x = simp append_assoc
 
-module _ (r p : Domain) (begin end : ℕ) (id : Octets) where
-  -- the name, by the parts that the code puts
-  name_parts : (named : Bool)
-      → (lower r ++ octets "!") ++ (lower p ++ octets "!") ++ (decimal begin ++ octets "!") ++ (decimal end ++ (if named then octets "!" else [])) ++ ((if named then id else []) ++ octets ".xml")
-      ≡ file_name_text r p begin end (given_id named id)
-  unfolding file_name_text domains_part times_part end_part given_id
-  name_parts true = five_parts (lower r) (octets "!") (lower p) (decimal begin) (decimal end) id (octets ".xml")
-  name_parts false = five_parts_unnamed (lower r) (octets "!") (lower p) (decimal begin) (decimal end) (octets ".xml")
+module _ (r p : Domain) (begin end : ℕ) (before : Octets) {m₁ m₂ m₃ m₄ : ℕ} {o₁ o₂ o₃ o₄ : Octets}
+    (a : Puts (lower r ++ octets "!") 0 before m₁ o₁) (b : Puts (lower p ++ octets "!") m₁ o₁ m₂ o₂) (c : Puts (decimal begin ++ octets "!") m₂ o₂ m₃ o₃) where
+  pub name_puts : (id : Octets) {m₅ : ℕ} {o₅ : Octets} → Puts (decimal end ++ octets "!") m₃ o₃ m₄ o₄ → Puts (id ++ octets ".xml") m₄ o₄ m₅ o₅ → Puts (file_name_text r p begin end (Some id)) 0 before m₅ o₅
+  unfolding file_name_text domains_part times_part end_part
+  name_puts id d e =
+      rw (parts (lower r) (octets "!") (lower p) (decimal begin) (decimal end) id (octets ".xml"))
+      at (puts_both _ _ before 0 (puts_both _ _ before 0 (puts_both _ _ before 0 (puts_both _ _ before 0 a b) c) d) e)
 
-  pub name_puts : (named : Bool) (before : Octets) {m₁ m₂ m₃ m₄ m₅ : ℕ} {o₁ o₂ o₃ o₄ o₅ : Octets}
-      → Puts (lower r ++ octets "!") 0 before m₁ o₁ → Puts (lower p ++ octets "!") m₁ o₁ m₂ o₂ → Puts (decimal begin ++ octets "!") m₂ o₂ m₃ o₃
-      → Puts (decimal end ++ (if named then octets "!" else [])) m₃ o₃ m₄ o₄ → Puts ((if named then id else []) ++ octets ".xml") m₄ o₄ m₅ o₅
-      → Puts (file_name_text r p begin end (given_id named id)) 0 before m₅ o₅
-  name_puts named before a b c d e =
-      rw (name_parts named) at (puts_both _ _ before 0 (puts_both _ _ before 0 (puts_both _ _ before 0 (puts_both _ _ before 0 a b) c) d) e)
+  pub name_puts_alone : Puts (decimal end ++ octets ".xml") m₃ o₃ m₄ o₄ → Puts (file_name_text r p begin end None) 0 before m₄ o₄
+  unfolding file_name_text domains_part times_part end_part
+  name_puts_alone d =
+      rw (parts_alone (lower r) (octets "!") (lower p) (decimal begin) (decimal end) (octets ".xml"))
+      at (puts_both _ _ before 0 (puts_both _ _ before 0 (puts_both _ _ before 0 a b) c) d)
+
+-- an id with a flag, as code makes an option of it
+pub as_given : (named : Bool) (id : Bor Octets) (given : Option (Bor Octets)) → given ≡ then_some named id → given_id named id.now ≡ option_copied given
+unfolding given_id
+as_given true id given e = rw e
+as_given false id given e = rw e

@@ -2,12 +2,11 @@
 use mathlib.Core.Path.{◌≡◌, refl, ap, sym, ◌∙◌}
 use mathlib.Core.List.{List, [], ◌∷◌, ◌++◌, map}
 use mathlib.Core.Bool.{Bool, true, false, not}
-use mathlib.Core.Option.{Option, none as nothing, some as just}
 use Prim.Native.Nat.{ℕ, zero, suc, ◌+◌}
 use native.Mathlib.Omega.{arith}
 use lib.Dec.{T, leb, eqb}
 use lib.ListN.{length, take, drop, length-map}
-use Rattle.std.specs.Prelude.{if◌then◌else◌}
+use Rattle.std.specs.Prelude.{if◌then◌else◌, Option, None, Some}
 use Rattle.octets.specs.Octets.{all, any, is_nothing, lower}
 use Rattle.octets.specs.Refusing.{◌>>=◌, OrRefused, ok, not_ok, refusal, refuse_if}
 use Rattle.octets.specs.declared.Refusal.{Refusal}
@@ -33,7 +32,7 @@ pub record OneMore (s : Seen) (new old : List Row) : Type 0 where
   pub totals : (f : Seen → Bool) → T (plain s) → T (all tidy old) → total f new ≡ total f old + one (f s)
   pub stays : T (plain s) → T (all tidy old) → T (all tidy new)
 
-raised_one : (s : Seen) (l new : List Row) (r : Row) → first (is_match s) l ≡ just r → raised s l r ≡ ok new → OneMore s new l
+raised_one : (s : Seen) (l new : List Row) (r : Row) → first (is_match s) l ≡ Some r → raised s l r ≡ ok new → OneMore s new l
 unfolding raised
 raised_one s l new r e h = go (leb 4294967295 r.count) h
   where
@@ -64,8 +63,8 @@ unfolding counted counted_by
 counted_one s l new h = go (first (is_match s) l) refl h
   where
     go : (o : Option Row) → first (is_match s) l ≡ o → counted_by s l o ≡ ok new → OneMore s new l
-    go nothing e g = taken_one s l new g
-    go (just r) e g = raised_one s l new r e g
+    go None e g = taken_one s l new g
+    go (Some r) e g = raised_one s l new r e g
 
 -- a verdict that was entered
 record Entered (e : Entry) (before after : Listing) : Type 0 where
@@ -84,7 +83,7 @@ entered_ok e lists d l l' h =
 
 -- a list that was cleared
 unfoldable pub emptied : Domain → Listing → Listing
-emptied d l = record { domain = just (lower (without_dot d)); rows = map (with_count 0) (on_list l.rows) ++ past_list l.rows }
+emptied d l = record { domain = Some (lower (without_dot d)); rows = map (with_count 0) (on_list l.rows) ++ past_list l.rows }
 
 pub cleared_ok : (d : Domain) (l l' : Listing) → cleared d l ≡ ok l' → emptied d l ≡ l'
 unfolding cleared emptied
@@ -109,8 +108,8 @@ unfolding counted counted_by raised taken
 counted_refused s rows f e = go (first (is_match s) rows) e
   where
     go : (o : Option Row) → counted_by s rows o ≡ not_ok f → is_accepted f ≡ false
-    go nothing h = either (any is_free rows) _ _ f (accepted_as _ f) (refused_as 12 f refl) h
-    go (just r) h = either (leb 4294967295 r.count) _ _ f (refused_as 13 f refl) (accepted_as _ f) h
+    go None h = either (any is_free rows) _ _ f (accepted_as _ f) (refused_as 12 f refl) h
+    go (Some r) h = either (leb 4294967295 r.count) _ _ f (refused_as 13 f refl) (accepted_as _ f) h
 
 refused_first : {A : Type 0} (t : Bool) (n : ℕ) (u : OrRefused A) (f : Refusal) → eqb n 0 ≡ false → (refuse_if t (refusal n 0) >>= λ _. u) ≡ not_ok f
     → (u ≡ not_ok f → is_accepted f ≡ false) → is_accepted f ≡ false

@@ -2,12 +2,11 @@
 use mathlib.Core.Path.{◌≡◌, refl, ap, sym, ◌∙◌}
 use mathlib.Core.List.{List, [], ◌∷◌, ◌++◌, map}
 use mathlib.Core.Bool.{Bool, true, false, ◌&&◌, ◌||◌, not, beq}
-use mathlib.Core.Option.{some as just}
 use Prim.Native.Nat.{ℕ, zero, suc, ◌+◌}
 use native.Mathlib.Omega.{arith}
 use lib.Dec.{T, eqb, eqb→eq, eqb_refl}
 use lib.ListN.{length, take, drop}
-use Rattle.std.specs.Prelude.{if◌then◌else◌}
+use Rattle.std.specs.Prelude.{if◌then◌else◌, Some}
 use Rattle.octets.specs.Octets.{Octets, is_set, flag, all, any, same}
 use Rattle.octets.proofs.TextLaws.{and_left, and_right, both, flag_said, true→T, same→eq}
 use Rattle.rows.specs.declared.Seen.{Seen}
@@ -110,12 +109,12 @@ module _ {A : Type 0} where
 -- ------------------------------------------------------------------ the first that passes a test
 
 module _ {A : Type 0} (t : A → Bool) where
-  pub first_any : (l : List A) (x : A) → first t l ≡ just x → any t l ≡ true
+  pub first_any : (l : List A) (x : A) → first t l ≡ Some x → any t l ≡ true
   unfolding first any
   first_any [] x e = absurd (true→T {b = false} (cc e))
   first_any (y ∷ l) x e = go (first_any l x) (t y) refl
     where
-      go : (first t l ≡ just x → any t l ≡ true) → (b : Bool) → t y ≡ b → any t (y ∷ l) ≡ true
+      go : (first t l ≡ Some x → any t l ≡ true) → (b : Bool) → t y ≡ b → any t (y ∷ l) ≡ true
       go later true h = rw h
       go later false h = rw h (later (rw (h, first) at e))
 

@@ -1,7 +1,6 @@
 -- What a row's numbers name (document 02, Ask 9): "The row gains two numbers", "Both are places in lists handed in beside the rows", of author domains and
 -- of sets of identifiers, each list in one text. Every text is read.
-use Rattle.std.specs.Prelude.{List, [], ◌∷◌, map, false, ℕ, zero, suc, ◌+◌, length, take, drop, get_or, if◌then◌else◌}
-use Rattle.std.proofs.Math.Option.{Option, none as nothing, some as just}
+use Rattle.std.specs.Prelude.{List, [], ◌∷◌, map, false, ℕ, zero, suc, ◌+◌, length, take, drop, get_or, if◌then◌else◌, Option, None, Some}
 use Rattle.octets.specs.Octets.{Octets, octets}
 use Rattle.octets.specs.Refusing.{ok, not_ok}
 use Rattle.octets.specs.Framing.{body_of, after_record, is_whole}
@@ -12,7 +11,7 @@ use Rattle.book.specs.Start.{GivenIdentifier, identifiers_from}
 
 -- a list is records of document 01's form, one after the other, their marks not read; one that runs past the end is none
 unfoldable pub first_body : Octets → Option Octets
-first_body list = if is_whole list then just (body_of list) else nothing
+first_body list = if is_whole list then Some (body_of list) else None
 
 -- the body at a place, from 0: nothing for "a row's number past its list"
 unfoldable pub body_at : ℕ → (list : Octets) → Option Octets
@@ -39,8 +38,8 @@ reported body = record {
 }
 
 unfoldable pub body_or_empty : Option Octets → Octets
-body_or_empty nothing = []
-body_or_empty (just body) = body
+body_or_empty None = []
+body_or_empty (Some body) = body
 
 -- a set's body is such records again, here at most n of them; one that runs past the end has no octets
 unfoldable pub set_most : ℕ → Octets → List Reported
@@ -58,11 +57,11 @@ unfoldable pub with_good_domain : Reported → GivenIdentifier
 with_good_domain i = record { kind = i.kind; outcome = i.outcome; domain = octets "a" }
 
 unfoldable pub good_set : List Reported → Option (List Reported)
-good_set is = elim (identifiers_from 0 false (map with_good_domain is)) [ ok _ ↦ just is | not_ok r ↦ nothing ]
+good_set is = elim (identifiers_from 0 false (map with_good_domain is)) [ ok _ ↦ Some is | not_ok r ↦ None ]
 
 unfoldable pub set_of : Option Octets → Option (List Reported)
-set_of nothing = nothing
-set_of (just body) = good_set (set_in body)
+set_of None = None
+set_of (Some body) = good_set (set_in body)
 
 -- both lists
 pub record Lists : Type 0 where
@@ -75,9 +74,9 @@ pub record Named : Type 0 where
   pub identifiers : List Reported
 
 unfoldable pub both_named : Option Octets → Option (List Reported) → Option Named
-both_named nothing is = nothing
-both_named (just d) nothing = nothing
-both_named (just d) (just is) = just (record { author = without_dot d; identifiers = is })
+both_named None is = None
+both_named (Some d) None = None
+both_named (Some d) (Some is) = Some (record { author = without_dot d; identifiers = is })
 
 -- nothing where 28 is due: "such a row's number past its list, or a set that 01 would refuse 3 or 4"
 unfoldable pub named_by : Lists → (author set : ℕ) → Option Named

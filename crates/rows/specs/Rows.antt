@@ -1,8 +1,7 @@
 -- Daily rows of one policy domain (document 02, Ask 1; for a final dot Ask 5, for a row's two numbers Ask 9): what clearing a list and entering a
 -- verdict give. "The report room wants each day's verdicts gathered".
-use Rattle.std.specs.Prelude.{List, [], ◌∷◌, ◌++◌, map, Bool, false, ◌&&◌, not, ℕ, ◌+◌, eqb, leb, take, drop, if◌then◌else◌}
+use Rattle.std.specs.Prelude.{List, [], ◌∷◌, ◌++◌, map, Bool, false, ◌&&◌, not, ℕ, ◌+◌, eqb, leb, take, drop, if◌then◌else◌, Option, None, Some}
 use Rattle.std.specs.Bool.{beq}
-use Rattle.std.proofs.Math.Option.{Option, none as nothing, some as just}
 use Rattle.octets.specs.Octets.{Octets, is_nothing, is_set, flag, any, same, same_text, lower}
 use Rattle.octets.specs.Refusing.{◌>>=◌, OrRefused, ok, not_ok, refusal, refuse_if}
 use Rattle.domain.specs.Domain.{Domain, without_dot, is_domain}
@@ -55,8 +54,8 @@ past_list rows = drop 256 rows
 
 -- the first that passes a test, and the list with that one changed
 unfoldable pub first : {A : Type 0} → (A → Bool) → List A → Option A
-first f [] = nothing
-first f (x ∷ xs) = if f x then just x else first f xs
+first f [] = None
+first f (x ∷ xs) = if f x then Some x else first f xs
 
 unfoldable pub change_first : {A : Type 0} → (A → Bool) → (A → A) → List A → List A
 change_first f g [] = []
@@ -72,8 +71,8 @@ unfoldable pub taken : Seen → List Row → OrRefused (List Row)
 taken s rows = if any is_free rows then ok (change_first is_free (λ _. record { seen = s; count = 1 }) rows) else not_ok (refusal 12 0)
 
 unfoldable pub counted_by : Seen → List Row → Option Row → OrRefused (List Row)
-counted_by s rows (just r) = raised s rows r
-counted_by s rows nothing = taken s rows
+counted_by s rows (Some r) = raised s rows r
+counted_by s rows None = taken s rows
 
 unfoldable pub counted : Seen → List Row → OrRefused (List Row)
 counted s rows = counted_by s rows (first (is_match s) rows)
@@ -128,14 +127,14 @@ pub record Listing : Type 0 where
 
 -- 27 "another policy domain, or a list never cleared"; "every domain we take" may "end in one dot, which is dropped"
 unfoldable pub serves : Option Domain → Octets → Bool
-serves nothing d = false
-serves (just named) d = same_text (without_dot d) named
+serves None d = false
+serves (Some named) d = same_text (without_dot d) named
 
 -- "A day's end clears the list, its counts to 0 and no more; a bad policy domain there is refused 11"; its final dot is dropped
 unfoldable pub cleared : Octets → Listing → OrRefused Listing
 cleared d l = do
   _ ← refuse_if (not (is_domain (without_dot d))) (refusal 11 0)
-  ok (record { domain = just (lower (without_dot d)); rows = map (with_count 0) (on_list l.rows) ++ past_list l.rows })
+  ok (record { domain = Some (lower (without_dot d)); rows = map (with_count 0) (on_list l.rows) ++ past_list l.rows })
 
 -- of the verdict, the two lists and the domain of its applied record: "order 14, 27, 12, 13"; "Entering a row keeps Ask 1's order, with 28 after 27";
 -- "A later number's place is 0 unless its request says more"

@@ -1,6 +1,5 @@
 -- What clearing and entering promise, and what is claimed of every run of these calls (document 02, Ask 1).
-use Rattle.std.specs.Prelude.{◌≡◌, List, [], ◌∷◌, true, false, length, take, replicate, if◌then◌else◌}
-use Rattle.std.proofs.Math.Option.{Option, none as nothing, some as just}
+use Rattle.std.specs.Prelude.{◌≡◌, List, [], ◌∷◌, true, false, length, take, replicate, if◌then◌else◌, Option, None, Some}
 use Rattle.octets.specs.Octets.{Octets, is_nothing, is_set, lower}
 use Rattle.octets.specs.Lent.{left}
 use Rattle.octets.specs.declared.Refusal.{Refusal}
@@ -15,7 +14,7 @@ use Rattle.rows_day.specs.declared.Changed.{Changed}
 
 -- the policy domain of a list
 unfoldable pub domain_in : DayList → Option Domain
-domain_in l = if is_set l.cleared then just (take l.length l.domain) else nothing
+domain_in l = if is_set l.cleared then Some (take l.length l.domain) else None
 
 unfoldable pub listing : DayList → List Row → Listing
 listing l rows = record { domain = domain_in l; rows = rows }
@@ -52,6 +51,6 @@ pub data Ran : DayList → List Row → History → DayList → List Row → Typ
 
 -- one claim on the history of calls, from a list that was never cleared, whatever its rows hold
 pub record DayClaims (first : DayList) (before : List Row) (h : History) (last : DayList) (after : List Row) : Type 0 where
-  pub tallies : domain_in first ≡ nothing → Ran first before h last after → is_nothing (domain_in last) ≡ false → Tallies h after
+  pub tallies : domain_in first ≡ None → Ran first before h last after → is_nothing (domain_in last) ≡ false → Tallies h after
   pub untouched : Ran first before h last after → Untouched before after
   pub day_end : (d : Domain) (r : Changed) (cleared : List Row) → Does (clear d) last after r cleared → is_accepted r.refusal ≡ true → DayEnd after cleared

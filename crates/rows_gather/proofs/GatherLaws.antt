@@ -5,12 +5,13 @@
 use mathlib.Core.Path.{◌≡◌, refl, sym, ◌∙◌, ap}
 use mathlib.Core.Bool.{true}
 use mathlib.Core.List.{List, [], ◌∷◌, ◌++◌, append_assoc}
-use Prim.Native.Nat.{ℕ, zero, suc, ◌+◌, ◌*◌, ◌-◌, ◌^◌, ◌<◌, ◌≤◌, min}
+use Prim.Native.Nat.{ℕ, zero, suc, ◌+◌, ◌*◌, ◌/◌, ◌-◌, ◌^◌, ◌<◌, ◌≤◌, min}
 use native.Mathlib.Omega.{arith}
 use lib.Dec.{leb}
 use lib.ListN.{take, drop, get_or, length, length-append}
 use lib.Seq.{take-take, take_at, drop_at, drop-drop, get_or-take, get_or-drop, length-take-le}
 use borrow.Author.Tests.{le-leb, lt-leb}
+use Rattle.std.specs.Int.{w32, to_le_bytes}
 use Rattle.octets.specs.Octets.{Octets}
 use Rattle.octets.specs.Lent.{over}
 use Rattle.octets.proofs.ListLaws.{drop_take}
@@ -49,6 +50,14 @@ puts_row r before at z room p q s t u =
     let four : length (v ++ w ++ x ++ y) ≡ 28 = rw (length-append (v ++ w ++ x) y, three) refl in
     appends_both (v ++ w ++ x ++ y) (number_octets r.count) before at (omega (arith, row_size r z))
     (appends_both (v ++ w ++ x) y before at (omega (arith, four)) (appends_both (v ++ w) x before at (omega (arith, three)) (appends_both v w before at (omega (arith, two)) p q) s) t) u
+
+-- a number is written as the library writes it
+pub number_bytes : (n : ℕ) → to_le_bytes w32 n ≡ number_octets n
+unfolding number_octets
+number_bytes n =
+    let third : n / 65536 ≡ n / 256 / 256 = omega arith in
+    let fourth : n / 16777216 ≡ n / 256 / 256 / 256 = omega arith in
+    rw (third, fourth)
 
 number_back : (n : ℕ) (rest : Octets) → n < 2 ^ 32 → number_from (number_octets n ++ rest) ≡ n
 unfolding number_from number_octets
@@ -165,10 +174,6 @@ module _ (r : Row) (g : Gathered) where
   has_room e full l p =
       let fits : leb (32 * g.count + length (row_octets r)) (length g.octets) ≡ true = le-leb (32 * g.count + length (row_octets r)) (length g.octets) (omega (arith, row_size r e)) in
       rw (lt-leb 256 g.count l, p.leaves, fits) refl
-
-  pub adds_one : g.count < 256 → (with_row r g).count ≡ g.count + 1
-  unfolding with_row
-  adds_one l = rw (lt-leb 256 g.count l)
 
 pub none_yet : rows_in no_rows ≡ []
 unfolding rows_in rows_of no_rows

@@ -1,9 +1,9 @@
 // A day's rows as one text: 32 octets a row, by which the report is written from lent octets alone.
 #![tactic(auto)]
 
-ghost use Rattle.std.specs.Prelude.{◌≡◌, ◌+◌, ◌≤◌, length, drop};
+ghost use Rattle.std.specs.Prelude.{◌≡◌, [], ◌∷◌, ◌++◌, ◌+◌, ◌<◌, ◌≤◌, length, drop};
 ghost use Rattle.octets_append.specs.code.Appending.{Appends};
-ghost use Rattle.rows_gather.specs.code.Gathered.{number_from, number_octets, row_octets, no_rows, with_row};
+ghost use Rattle.rows_gather.specs.code.Gathered.{number_from, number_octets, row_octets, rows_in, no_rows, with_row};
 
 use rows::Row;
 
@@ -15,29 +15,29 @@ pub struct Gathered {
     pub octets: [u8; 8192],
 }
 
-// A number of four octets, the low one first.
+// The most rows, and how many octets each has.
+const MOST_ROWS: usize = 256;
+
+const ROW_OCTETS: usize = 32;
+
+// A number of four octets, the low one first; past the end of the text stand zeros.
 pub fn number_at(t: &[u8], at: usize) -> u32
     ensures { result ≡ number_from (drop at t.now) }
 {
     let s = text_parts::skip(t, at);
-    let a = records_fields::octet_at(s, 0, 0) as u32;
-    let b = records_fields::octet_at(s, 1, 0) as u32;
-    let c = records_fields::octet_at(s, 2, 0) as u32;
-    let d = records_fields::octet_at(s, 3, 0) as u32;
-    a + b * 256 + c * 65536 + d * 16777216
+    u32::from_le_bytes([
+        records_fields::octet_at(s, 0, 0),
+        records_fields::octet_at(s, 1, 0),
+        records_fields::octet_at(s, 2, 0),
+        records_fields::octet_at(s, 3, 0),
+    ])
 }
 
 // A number's four octets from a place of lent memory on, and the place after them.
 fn put_number(n: u32, at: usize, out: &mut [u8]) -> usize
     ensures { Appends (number_octets n) at out.old result out.new }
 {
-    let four = [
-        (n % 256) as u8,
-        (n / 256 % 256) as u8,
-        (n / 256 / 256 % 256) as u8,
-        (n / 256 / 256 / 256 % 256) as u8,
-    ];
-    octets_append::append(&four, at, out)
+    octets_append::append(&n.to_le_bytes(), at, out)
 }
 
 // A row's octets from a place of lent memory on, and the place after them.
@@ -46,13 +46,12 @@ fn put_row(row: Row, at: usize, out: &mut [u8]) -> usize
     ensures { Appends (row_octets row) at out.old result out.new }
 {
     let seen = row.seen;
-    let source = seen.source;
-    let four = [seen.disposition, seen.dkim, seen.spf, seen.spare];
-    let flags = octets_append::append(&source, at, out);
-    let author = octets_append::append(&four, flags, out);
-    let set = put_number(seen.author, author, out);
-    let count = put_number(seen.set, set, out);
-    put_number(row.count, count, out)
+    let flags = [seen.disposition, seen.dkim, seen.spf, seen.spare];
+    let after_source = octets_append::append(&seen.source, at, out);
+    let after_flags = octets_append::append(&flags, after_source, out);
+    let after_author = put_number(seen.author, after_flags, out);
+    let after_set = put_number(seen.set, after_author, out);
+    put_number(row.count, after_set, out)
 }
 
 // No row.
@@ -65,18 +64,14 @@ pub fn none() -> Gathered
     }
 }
 
-// One row more, where fewer than 256 are there.
-pub fn add(g: Gathered, row: Row) -> Gathered
-    ensures { result ≡ with_row row g }
+// One row more, where fewer than 256 are there: it is read behind them.
+pub fn add(g: &mut Gathered, row: Row)
+    ensures whole { g.new ≡ with_row row g.old }
+    ensures rows { g.old.count < 256 → rows_in g.new ≡ rows_in g.old ++ (row ∷ []) }
+    ensures count { g.old.count < 256 → g.new.count ≡ g.old.count + 1 }
 {
-    let count = g.count;
-    if 256 <= count {
-        return g;
-    }
-    let mut octets = g.octets;
-    put_row(row, 32 * count, &mut octets);
-    Gathered {
-        count: count + 1,
-        octets,
+    if g.count < MOST_ROWS {
+        put_row(row, ROW_OCTETS * g.count, &mut g.octets);
+        g.count += 1;
     }
 }

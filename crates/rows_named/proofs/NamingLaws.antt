@@ -1,19 +1,18 @@
 -- Laws of places in a list and of sets, as the code goes through them.
 use mathlib.Core.Path.{◌≡◌, refl, sym, ap, ◌∙◌, subst}
-use mathlib.Core.List.{List, [], ◌∷◌, map}
+use mathlib.Core.List.{List, [], ◌∷◌}
 use mathlib.Core.Bool.{Bool, true, false, ◌&&◌, ◌||◌, not, false≢true, or-false}
 use mathlib.Core.Logic.{◌⊎◌, inl, inr}
-use mathlib.Core.Option.{Option, none as nothing, some as just}
 use Prim.Native.Nat.{ℕ, zero, suc, ◌+◌, ◌-◌, ◌≤◌, ◌<◌}
 use native.Mathlib.Omega.{arith}
 use lib.Dec.{eqb, leb}
-use lib.ListN.{length, take, drop, get_or}
-use borrow.Author.Tests.{le-leb, lt-leb, leb-false, eq-eqb, ne_eqb}
-use Rattle.std.specs.Prelude.{if◌then◌else◌}
+use lib.ListN.{length}
+use borrow.Author.Tests.{lt-leb, leb-false, eq-eqb, ne_eqb}
+use Rattle.std.specs.Prelude.{Option, None, Some}
 use Rattle.octets.specs.Octets.{Octets, is_nothing}
 use Rattle.octets.specs.Framing.{size_of, body_of, after_record, is_whole}
 use Rattle.octets.proofs.FramingLaws.{after_shorter}
-use Rattle.rows.specs.Lists.{Reported, reported, body_or_empty, first_body, body_at, set_most, set_in, with_good_domain, good_set, set_of, Lists, both_named, named_by}
+use Rattle.rows.specs.Lists.{Reported, reported, body_or_empty, first_body, body_at, set_most, set_in, good_set, set_of, Lists, both_named, named_by}
 use Rattle.rows.proofs.SetLaws.{Fine, set_fine, fine_set}
 use Rattle.rows_named.specs.code.Naming.{records_after, takes, passes_set}
 
@@ -48,14 +47,6 @@ no_record zero t h = refl
 no_record (suc n) t h = absurd (omega (arith, h))
 
 -- ------------------------------------------------------------------ the record at the front
-
-pub whole_body : (t : Octets) → is_whole t ≡ true → body_of t ≡ body_or_empty (first_body t)
-unfolding first_body body_or_empty
-whole_body t e = rw e
-
-pub no_body : (t : Octets) → is_whole t ≡ false → [] ≡ body_or_empty (first_body t)
-unfolding first_body body_or_empty
-no_body t e = rw e
 
 -- ------------------------------------------------------------------ sets, one identifier more
 
@@ -165,40 +156,25 @@ module _ (authors sets : Octets) (a s : ℕ) where
   unfolding named_by both_named set_of first_body is_nothing
   no_set e f = rw (at_place a authors, at_place s sets, e, f)
 
-  both_nothing : (d : Octets) (o : Option (List Reported)) → is_nothing (both_named (just d) o) ≡ is_nothing o
+  both_nothing : (d : Octets) (o : Option (List Reported)) → is_nothing (both_named (Some d) o) ≡ is_nothing o
   unfolding both_named is_nothing
-  both_nothing d nothing = refl
-  both_nothing d (just is) = refl
+  both_nothing d None = refl
+  both_nothing d (Some is) = refl
 
   named_is : is_whole (records_after a authors) ≡ true → is_whole (records_after s sets) ≡ true
-      → named_by lists a s ≡ both_named (just (body_of (records_after a authors))) (good_set (set_in (body_of (records_after s sets))))
+      → named_by lists a s ≡ both_named (Some (body_of (records_after a authors))) (good_set (set_in (body_of (records_after s sets))))
   unfolding named_by set_of first_body
   named_is e f = rw (at_place a authors, at_place s sets, e, f)
 
-  pub by_set : is_whole (records_after a authors) ≡ true → is_whole (records_after s sets) ≡ true → passes_set 0 false (set_in (body_of (records_after s sets))) ≡ not (is_nothing (named_by lists a s))
+  by_set : is_whole (records_after a authors) ≡ true → is_whole (records_after s sets) ≡ true → passes_set 0 false (set_in (body_of (records_after s sets))) ≡ not (is_nothing (named_by lists a s))
   by_set e f =
       let is = set_in (body_of (records_after s sets)) in
       sym (set_passes is) ∙ ap not (sym (both_nothing (body_of (records_after a authors)) (good_set is)) ∙ ap is_nothing (sym (named_is e f)))
 
--- ------------------------------------------------------------------ one identifier
-
-module _ (index : ℕ) (seen : Bool) (i : Reported) where
-  pub too_many : 16 ≤ index → false ≡ takes index seen i
-  unfolding takes
-  too_many h = rw (le-leb 16 index h)
-
-  pub no_kind : index < 16 → 2 ≤ i.kind → false ≡ takes index seen i
-  unfolding takes
-  no_kind g h = rw (lt-leb 16 index g, le-leb 2 i.kind h)
-
-  pub no_outcome : index < 16 → i.kind < 2 → 3 ≤ i.outcome → false ≡ takes index seen i
-  unfolding takes
-  no_outcome g k h = rw (lt-leb 16 index g, lt-leb 2 i.kind k, le-leb 3 i.outcome h)
-
-  pub of_spf : index < 16 → i.kind < 2 → i.outcome < 3 → eqb i.kind 0 ≡ true → not seen ≡ takes index seen i
-  unfolding takes
-  of_spf g k h e = rw (lt-leb 16 index g, lt-leb 2 i.kind k, lt-leb 3 i.outcome h, e)
-
-  pub of_dkim : index < 16 → i.kind < 2 → i.outcome < 3 → eqb i.kind 0 ≡ false → true ≡ takes index seen i
-  unfolding takes
-  of_dkim g k h e = rw (lt-leb 16 index g, lt-leb 2 i.kind k, lt-leb 3 i.outcome h, e)
+  pub named_test : (is_whole (records_after a authors) && is_whole (records_after s sets) && passes_set 0 false (set_in (body_of (records_after s sets)))) ≡ not (is_nothing (named_by lists a s))
+  named_test = go (is_whole (records_after a authors)) refl (is_whole (records_after s sets)) refl
+    where
+      go : (b : Bool) → is_whole (records_after a authors) ≡ b → (c : Bool) → is_whole (records_after s sets) ≡ c → (is_whole (records_after a authors) && is_whole (records_after s sets) && passes_set 0 false (set_in (body_of (records_after s sets)))) ≡ not (is_nothing (named_by lists a s))
+      go false e c f = rw e (no_author e)
+      go true e false f = rw (e, f) (no_set e f)
+      go true e true f = rw (e, f) (by_set e f)

@@ -1,7 +1,7 @@
 // What a row's two numbers name in the lists beside the rows: whether refusal 28 is due.
 #![tactic(auto)]
 
-ghost use Rattle.std.specs.Prelude.{◌≡◌, false, not, ◌||◌, eqb};
+ghost use Rattle.std.specs.Prelude.{◌≡◌, false, not, eqb};
 ghost use Rattle.octets.specs.Octets.{is_nothing};
 ghost use Rattle.octets.specs.Framing.{is_whole};
 ghost use Rattle.rows.specs.Lists.{body_or_empty, first_body, reported, set_in, named_by};
@@ -12,14 +12,11 @@ pub fn record_at(list: &[u8], n: u32) -> &[u8]
     ensures { result.now ≡ records_after n list.now }
 {
     let mut t = list;
-    let mut more = n;
-    while 0 < more {
-        if t.len() == 0 {
+    for _ in 0..n {
+        if t.is_empty() {
             return t;
         }
-        let rest = records_fields::after_record(t);
-        t = rest;
-        more = more - 1;
+        t = records_fields::after_record(t);
     }
     t
 }
@@ -36,9 +33,10 @@ pub fn front_body(t: &[u8]) -> &[u8]
     ensures { result.now ≡ body_or_empty (first_body t.now) }
 {
     if is_whole(t) {
-        return records_fields::body(t);
+        records_fields::body(t)
+    } else {
+        &[]
     }
-    text_parts::part(t, 0, 0)
 }
 
 // Whether an identifier is of SPF.
@@ -52,29 +50,10 @@ fn is_spf(body: &[u8]) -> bool
 fn is_taken(index: usize, seen: bool, body: &[u8]) -> bool
     ensures { result ≡ takes index seen (reported body.now) }
 {
-    if 16 <= index {
-        return false;
-    }
-    if 2 <= records_fields::octet_at(body, 0, 255) {
-        return false;
-    }
-    if 3 <= records_fields::octet_at(body, 1, 255) {
-        return false;
-    }
-    if is_spf(body) {
-        return !seen;
-    }
-    true
-}
-
-// Whether one of two holds.
-fn either(a: bool, b: bool) -> bool
-    ensures { result ≡ (a || b) }
-{
-    if a {
-        return true;
-    }
-    b
+    index < 16
+        && records_fields::octet_at(body, 0, 255) < 2
+        && records_fields::octet_at(body, 1, 255) < 3
+        && !(is_spf(body) && seen)
 }
 
 // Whether a set is one that document 01 would not refuse 3 or 4.
@@ -84,15 +63,14 @@ pub fn is_set(body: &[u8]) -> bool
     let mut t = body;
     let mut index: usize = 0;
     let mut seen = false;
-    while 0 < t.len() {
+    while !t.is_empty() {
         let first = front_body(t);
         if !is_taken(index, seen, first) {
             return false;
         }
-        seen = either(seen, is_spf(first));
-        let rest = records_fields::after_record(t);
-        t = rest;
-        index = index + 1;
+        seen = seen || is_spf(first);
+        t = records_fields::after_record(t);
+        index += 1;
     }
     true
 }
@@ -101,12 +79,6 @@ pub fn is_set(body: &[u8]) -> bool
 pub fn is_named<'a>(authors: &'a [u8], sets: &'a [u8], author: u32, set: u32) -> bool
     ensures { result ≡ not (is_nothing (named_by (record { authors = authors.now; sets = sets.now }) author set)) }
 {
-    if !is_whole(record_at(authors, author)) {
-        return false;
-    }
     let named = record_at(sets, set);
-    if !is_whole(named) {
-        return false;
-    }
-    is_set(records_fields::body(named))
+    is_whole(record_at(authors, author)) && is_whole(named) && is_set(records_fields::body(named))
 }

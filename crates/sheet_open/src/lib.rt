@@ -13,7 +13,7 @@ ghost use Rattle.evaluation.specs.GivenBack.{acceptance_back};
 ghost use Rattle.records_fields.specs.code.Layout.{identifier_at, identifiers_on, message_on};
 ghost use Rattle.sheet_open.specs.code.OpeningSheet.{OpensWith};
 
-use evaluation::{Acceptance, Changed, Evaluation};
+use evaluation::{Changed, Evaluation};
 
 // Adds the identifier of a record where it lies.
 fn add_at(e: Evaluation, t: &[u8]) -> Changed
@@ -35,7 +35,7 @@ fn add_each(e: Evaluation, records: usize, sheet: &[u8]) -> Changed
     while 1 < more && records_find::is_identifier(t) {
         let added = add_at(now, t);
         let adding = added.acceptance;
-        if let Acceptance::Refused(_) = adding {
+        if let Err(_) = adding {
             return added;
         }
         now = added.evaluation;
@@ -45,7 +45,7 @@ fn add_each(e: Evaluation, records: usize, sheet: &[u8]) -> Changed
     }
     Changed {
         evaluation: now,
-        acceptance: Acceptance::Accepted,
+        acceptance: Ok(()),
     }
 }
 
@@ -60,7 +60,7 @@ pub fn open(records: usize, sheet: &[u8]) -> Changed
         records_fields::octet_at(sheet, 5, 0),
     );
     let opening = opened.acceptance;
-    if let Acceptance::Refused(_) = opening {
+    if let Err(_) = opening {
         return opened;
     }
     add_each(opened.evaluation, records, sheet)

@@ -1,4 +1,5 @@
 -- Laws of a whole sheet: from its records to its start, and what is printed.
+use Rattle.std.specs.Prelude.{Ok, Err}
 use mathlib.Core.Path.{◌≡◌, refl, ap, sym, ◌∙◌}
 use mathlib.Core.Bool.{false}
 use Prim.Native.Nat.{ℕ}
@@ -9,7 +10,6 @@ use Rattle.octets.proofs.TextLaws.{true→T}
 use Rattle.verdict.specs.Message.{Message}
 use Rattle.book.specs.Start.{started}
 use Rattle.evaluation.specs.declared.Evaluation.{Evaluation}
-use Rattle.evaluation.specs.declared.Acceptance.{Acceptance}
 use Rattle.evaluation.specs.declared.Changed.{Changed}
 use Rattle.records.specs.Sheet.{entries, message_in}
 use Rattle.records_fields.specs.code.Layout.{listed, message_on, Whole}
@@ -22,7 +22,7 @@ use Rattle.sheet_run.specs.code.Beginning.{Begins}
 use Rattle.sheet_turn.proofs.ConversingLaws.{begins}
 
 -- a broken sheet
-pub broken : (sheet : Octets) (k : ℕ) (e : Evaluation) (f : Refusal) → entries sheet ≡ not_ok f → Begins sheet (record { records = k; evaluation = e; acceptance = Acceptance.Refused f })
+pub broken : (sheet : Octets) (k : ℕ) (e : Evaluation) (f : Refusal) → entries sheet ≡ not_ok f → Begins sheet (record { records = k; evaluation = e; acceptance = Err f })
 unfolding printed evaluated ◌>>=◌
 broken sheet k e f r = record {
   refused = λ g q. rw r (ap (λ x. text_of (not_ok x)) (cc q));
@@ -45,7 +45,7 @@ module _ (k : ℕ) (sheet : Octets) (ω : Whole k sheet) where
     where
       go : (o : OrRefused Message) → started (message_in (listed k sheet)) ≡ o → OpensWith o r → Begins sheet (record { records = k; evaluation = r.evaluation; acceptance = r.acceptance })
       go (ok m) s (a, v) = record {
-        refused = λ g q. let z : Acceptance.Refused g ≡ Acceptance.Accepted = sym q ∙ a in absurd (true→T {b = false} (cc z));
+        refused = λ g q. let z : Err g ≡ (Ok tt) = sym q ∙ a in absurd (true→T {b = false} (cc z));
         accepted = λ q.
             let first = added (message_in (listed k sheet)) m s in
             record {
@@ -57,8 +57,8 @@ module _ (k : ℕ) (sheet : Octets) (ω : Whole k sheet) where
       }
       go (not_ok x) s a = record {
         refused = λ g q.
-            let z : Acceptance.Refused g ≡ Acceptance.Refused x = sym q ∙ a in
+            let z : Err g ≡ Err x = sym q ∙ a in
             let w : g ≡ x = cc z in
             printed_whole ∙ rw (s, w);
-        accepted = λ q. let z : Acceptance.Accepted ≡ Acceptance.Refused x = sym q ∙ a in absurd (true→T {b = false} (cc z));
+        accepted = λ q. let z : (Ok tt) ≡ Err x = sym q ∙ a in absurd (true→T {b = false} (cc z));
       }

@@ -7,9 +7,8 @@ ghost use Rattle.sheet.specs.Printed.{printed};
 ghost use Rattle.sheet_turn.specs.code.Conversing.{Converses};
 ghost use Rattle.sheet_run.specs.code.Beginning.{Begins};
 
-use evaluation::{Acceptance, Evaluation};
-use octets::{Refusal, Written};
-use records_fields::Scanned;
+use evaluation::Evaluation;
+use octets::Refusal;
 
 // The calls of an opened evaluation, one turn after another, and where the text ends.
 fn converse(e: Evaluation, records: usize, sheet: &[u8], lines: &mut [u8]) -> usize
@@ -35,7 +34,7 @@ fn converse(e: Evaluation, records: usize, sheet: &[u8], lines: &mut [u8]) -> us
 struct Begun {
     records: usize,
     evaluation: Evaluation,
-    acceptance: Acceptance,
+    acceptance: Result<(), Refusal>,
 }
 
 // A sheet is checked, its message opened and its identifiers added.
@@ -43,7 +42,7 @@ fn begin(sheet: &[u8]) -> Begun
     ensures { Begins sheet.now result }
 {
     match records_check::check_sheet(sheet) {
-        Scanned::Whole(records) => {
+        Ok(records) => {
             let opened = sheet_open::open(records, sheet);
             let evaluation = opened.evaluation;
             let acceptance = opened.acceptance;
@@ -53,10 +52,10 @@ fn begin(sheet: &[u8]) -> Begun
                 acceptance,
             }
         }
-        Scanned::Broken(place) => Begun {
+        Err(place) => Begun {
             records: 0,
             evaluation: evaluation_state::empty(),
-            acceptance: Acceptance::Refused(Refusal { number: 8, place }),
+            acceptance: Err(Refusal { number: 8, place }),
         },
     }
 }
@@ -67,14 +66,14 @@ fn compose(sheet: &[u8], lines: &mut [u8]) -> usize
 {
     let begun = begin(sheet);
     let acceptance = begun.acceptance;
-    if let Acceptance::Refused(f) = acceptance {
+    if let Err(f) = acceptance {
         return sheet_print::append_refusal(f, 0, lines);
     }
     converse(begun.evaluation, begun.records, sheet, lines)
 }
 
 // Runs a sheet: the text that is printed for it into the front of lent memory. No text is longer than 36,864 octets.
-pub fn run(sheet: &[u8], out: &mut [u8]) -> Written
+pub fn run(sheet: &[u8], out: &mut [u8]) -> Result<usize, Refusal>
     ensures { Writes (printed sheet.now) out.old result out.new × (length (printed sheet.now) ≤ 36864) }
 {
     let mut lines = [0u8; 36864];

@@ -6,8 +6,6 @@ ghost use Rattle.std.specs.Prelude.{◌≡◌, length};
 ghost use Rattle.octets.specs.Lent.{left};
 ghost use Rattle.sheet.specs.Printed.{printed};
 
-use octets::Written;
-
 // How long the text is that is printed for a sheet. It is written into the front of lent memory where there is room, and which
 // the sheet does not overlap: the C header's `waslidhaj_run` sees to it.
 #[tactic(auto, unfolding(octets::specs::Lent::written))]
@@ -16,7 +14,7 @@ pub extern "C" fn waslidhaj_run_apart(sheet: &[u8], out: &mut [u8]) -> usize
     ensures { (result ≡ length (printed sheet.now)) × (out.new ≡ left (printed sheet.now) out.old) }
 {
     match sheet_run::run(sheet, out) {
-        Written::Wrote(n) => n,
-        Written::Refused(f) => f.place,
+        Ok(n) => n,
+        Err(f) => f.place,
     }
 }

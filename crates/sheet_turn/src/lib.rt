@@ -6,8 +6,7 @@ ghost use Rattle.evaluation.specs.GivenBack.{marked};
 ghost use Rattle.sheet_turn.specs.code.Conversing.{TakesTurn, AsksName};
 
 use domain::Octet;
-use evaluation::{Acceptance, Evaluation, Step};
-use octets::Written;
+use evaluation::{Evaluation, Step};
 
 // What a turn of next step and answer leaves: the evaluation, where the lines end, and whether it was the last.
 #[derive(Clone, Copy)]
@@ -23,8 +22,8 @@ fn name_at(e: Evaluation, walk: usize, place: Octet, name: &mut [u8]) -> usize
     ensures { (take result name.new ≡ marked e walk place) × (result ≡ length (marked e walk place)) × (result ≤ 260) }
 {
     match evaluation_state::write_name(&e.domains, &e.numbers, walk, place, name) {
-        Written::Wrote(n) => n,
-        Written::Refused(_) => 0,
+        Ok(n) => n,
+        Err(_) => 0,
     }
 }
 
@@ -50,7 +49,7 @@ fn ask<'a>(
         &mut scratch,
     );
     let acceptance = changed.acceptance;
-    if let Acceptance::Refused(f) = acceptance {
+    if let Err(f) = acceptance {
         return Turn {
             evaluation: e,
             end: sheet_print::append_refusal(f, 0, lines),

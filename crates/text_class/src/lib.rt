@@ -22,40 +22,35 @@ pub enum Class {
 }
 
 // Whether an octet is one from `low` to `high`.
+#[tactic(auto, unfolding(octets::specs::Octets::between))]
 pub fn is_between(b: u8, low: u8, high: u8) -> bool
     ensures { result ≡ between low high b }
 {
-    if b < low {
-        return false;
-    }
-    b <= high
+    low <= b && b <= high
 }
 
 // Whether an octet is a letter.
+#[tactic(auto, unfolding(octets::specs::Octets::is_letter, octets::specs::Octets::between))]
 pub fn is_letter(b: u8) -> bool
     ensures { result ≡ is_letter b }
 {
-    if is_between(b, b'A', b'Z') {
-        return true;
-    }
-    is_between(b, b'a', b'z')
+    b.is_ascii_alphabetic()
 }
 
 // Whether an octet is a digit.
+#[tactic(auto, unfolding(octets::specs::Octets::is_digit, octets::specs::Octets::between))]
 pub fn is_digit(b: u8) -> bool
     ensures { result ≡ is_digit b }
 {
-    is_between(b, b'0', b'9')
+    b.is_ascii_digit()
 }
 
 // Whether an octet is space or tab.
+#[tactic(auto, unfolding(octets::specs::Octets::is_blank, octets::specs::Octets::one_of, octets::specs::Octets::any))]
 pub fn is_blank(b: u8) -> bool
     ensures { result ≡ is_blank b }
 {
-    if b == 32 {
-        return true;
-    }
-    b == 9
+    matches!(b, b' ' | b'\t')
 }
 
 // Whether an octet is in a class.
@@ -65,35 +60,17 @@ pub fn is_in(b: u8, class: Class) -> bool
     match class {
         Class::Blank => is_blank(b),
         Class::Letter => is_letter(b),
-        Class::Alphanumeric => is_alphanumeric(b),
+        Class::Alphanumeric => is_letter(b) || is_digit(b),
         Class::Between(low, high) => is_between(b, low, high),
         Class::Word(x, y, z) => is_word(b, x, y, z),
         Class::Not(mark) => b != mark,
     }
 }
 
-// Whether an octet is a letter or a digit.
-fn is_alphanumeric(b: u8) -> bool
-    ensures { result ≡ in_class Class.Alphanumeric b }
-{
-    if is_letter(b) {
-        return true;
-    }
-    is_digit(b)
-}
-
 // Whether an octet is a letter, a digit or one of three marks.
+#[tactic(auto, unfolding(octets::specs::Octets::one_of, octets::specs::Octets::any))]
 fn is_word(b: u8, x: u8, y: u8, z: u8) -> bool
     ensures { result ≡ in_class (Class.Word x y z) b }
 {
-    if is_alphanumeric(b) {
-        return true;
-    }
-    if b == x {
-        return true;
-    }
-    if b == y {
-        return true;
-    }
-    b == z
+    is_letter(b) || is_digit(b) || b == x || b == y || b == z
 }

@@ -11,14 +11,12 @@ use text_class::Class;
 pub fn front_length(s: &[u8], class: Class) -> usize
     ensures { result ≡ length (front (in_class class) s.now) }
 {
-    let mut i = 0;
-    while i < s.len() {
-        if !text_class::is_in(s[i], class) {
+    for (i, x) in s.iter().enumerate() {
+        if !text_class::is_in(*x, class) {
             return i;
         }
-        i = i + 1;
     }
-    i
+    s.len()
 }
 
 // Where the first `mark` stands in a text, or the text's length.
@@ -29,18 +27,18 @@ pub fn find_octet(s: &[u8], mark: u8) -> usize
 }
 
 // Whether an octet is one of a text's.
+#[tactic(auto, using(crate::proofs::MarkLaws::one_of_marks))]
 pub fn is_one_of(b: u8, marks: &[u8]) -> bool
     ensures { result ≡ one_of marks.now b }
 {
-    find_octet(marks, b) < marks.len()
+    marks.contains(&b)
 }
 
 // The longest front part of a text that is of a class.
 pub fn front(s: &[u8], class: Class) -> &[u8]
     ensures { result.now ≡ front (in_class class) s.now }
 {
-    let n = front_length(s, class);
-    &s[0..n]
+    &s[..front_length(s, class)]
 }
 
 // And what follows it.
@@ -51,16 +49,11 @@ pub fn after(s: &[u8], class: Class) -> &[u8]
 }
 
 // Whether a text is of one to `most` octets, all of a class.
+#[tactic(auto, using(octets::proofs::PartLaws::all_front), unfolding(octets::specs::Octets::made_of))]
 pub fn is_made_of(s: &[u8], class: Class, most: usize) -> bool
     ensures { result ≡ made_of most (in_class class) s.now }
 {
-    if s.len() == 0 {
-        return false;
-    }
-    if most < s.len() {
-        return false;
-    }
-    s.len() <= front_length(s, class)
+    !s.is_empty() && s.len() <= most && s.len() <= front_length(s, class)
 }
 
 // A text without the blanks at its end.
@@ -68,14 +61,10 @@ pub fn trim_end(s: &[u8]) -> &[u8]
     ensures { result.now ≡ trim_end s.now }
 {
     let mut end = s.len();
-    while 0 < end {
-        let last = end - 1;
-        if !text_class::is_blank(s[last]) {
-            return &s[0..end];
-        }
-        end = last;
+    while 0 < end && text_class::is_blank(s[end - 1]) {
+        end -= 1;
     }
-    &s[0..0]
+    &s[..end]
 }
 
 // A text without the blanks at its ends.

@@ -3,7 +3,7 @@
 
 ghost use Rattle.std.specs.Prelude.{◌≡◌, ◌<◌};
 ghost use Rattle.txt.specs.Answers.{status_numbered};
-ghost use Rattle.txt_codes.specs.code.Codes.{setting_code, mode_code, psd_code, flag_code, settings_code, reply_code, setting_of, mode_of_code, psd_of, settings_of, reply_of};
+ghost use Rattle.txt_codes.specs.code.Codes.{setting_code, mode_code, psd_code, settings_code, reply_code, setting_of, mode_of_code, psd_of, settings_of, reply_of};
 
 use policy::{Mode, Policy, Psd, Setting, Settings};
 use txt::{Reply, Status};
@@ -26,11 +26,9 @@ fn encode_setting(x: Setting) -> usize
     match x {
         Setting::Absent => 0,
         Setting::Invalid => 1,
-        Setting::Set(p) => match p {
-            Policy::None => 2,
-            Policy::Quarantine => 3,
-            Policy::Reject => 4,
-        },
+        Setting::Set(Policy::None) => 2,
+        Setting::Set(Policy::Quarantine) => 3,
+        Setting::Set(Policy::Reject) => 4,
     }
 }
 
@@ -55,34 +53,18 @@ fn encode_psd(x: Psd) -> usize
     }
 }
 
-// A flag, as a digit.
-fn encode_flag(x: bool) -> usize
-    ensures { (result ≡ flag_code x) × (result < 2) }
-{
-    if x {
-        return 1;
-    }
-    0
-}
-
 // What a record sets, as digits of mixed base.
 pub fn encode_settings(s: Settings) -> usize
     ensures { (result ≡ settings_code s) × (result < 6000) }
 {
-    let p = s.p;
-    let sp = s.sp;
-    let np = s.np;
-    let adkim = s.adkim;
-    let aspf = s.aspf;
-    let psd = s.psd;
-    encode_setting(p)
-        + 5 * encode_setting(sp)
-        + 25 * encode_setting(np)
-        + 125 * encode_mode(adkim)
-        + 250 * encode_mode(aspf)
-        + 500 * encode_psd(psd)
-        + 1500 * encode_flag(s.t)
-        + 3000 * encode_flag(s.reports)
+    encode_setting(s.p)
+        + 5 * encode_setting(s.sp)
+        + 25 * encode_setting(s.np)
+        + 125 * encode_mode(s.adkim)
+        + 250 * encode_mode(s.aspf)
+        + 500 * encode_psd(s.psd)
+        + 1500 * usize::from(s.t)
+        + 3000 * usize::from(s.reports)
 }
 
 // A reply as a number, to keep.

@@ -4,7 +4,7 @@
 ghost use Rattle.std.specs.Prelude.{◌≡◌};
 ghost use Rattle.txt_found.specs.code.Finding.{add_found, found_reply};
 
-use policy::{Reading, Settings};
+use policy::Settings;
 use txt::Reply;
 
 // The policy records among texts.
@@ -16,16 +16,13 @@ pub enum Found {
 }
 
 // What is found with one text more.
-pub fn add_found(first: Reading, others: Found) -> Found
+pub fn add_found(first: Option<Settings>, others: Found) -> Found
     ensures { result ≡ add_found first others }
 {
-    let Reading::Record(settings) = first else {
-        return others;
-    };
-    match others {
-        Found::Nothing => Found::One(settings),
-        Found::One(_) => Found::Several,
-        Found::Several => Found::Several,
+    match (first, others) {
+        (None, found) => found,
+        (Some(settings), Found::Nothing) => Found::One(settings),
+        (Some(_), Found::One(_) | Found::Several) => Found::Several,
     }
 }
 
@@ -34,8 +31,7 @@ pub fn reply_of(found: Found) -> Reply
     ensures { result ≡ found_reply found }
 {
     match found {
-        Found::Nothing => Reply::NoRecord,
         Found::One(settings) => Reply::Record(settings),
-        Found::Several => Reply::NoRecord,
+        Found::Nothing | Found::Several => Reply::NoRecord,
     }
 }

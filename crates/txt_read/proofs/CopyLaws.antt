@@ -1,8 +1,8 @@
 -- Laws of a copier of character-strings: each is written on from where the last one ended.
+use Rattle.std.specs.Prelude.{Result, Option}
 use mathlib.Core.Path.{◌≡◌, refl, ap, sym, ◌∙◌}
 use mathlib.Core.List.{[], ◌++◌, append-nil, append_assoc}
 use mathlib.Core.Bool.{true}
-use mathlib.Core.Option.{Option}
 use Prim.Native.Nat.{ℕ, ◌+◌, ◌-◌, ◌≤◌, ◌<◌}
 use native.Mathlib.Omega.{arith}
 use borrow.Rule.Slice.PartMut.{put_mid}
@@ -10,12 +10,12 @@ use lib.ListN.{length, take, drop, get_or, length-drop, length-append, take-appe
 use lib.Seq.{length-take-le, take_at, drop_at, drop-drop, drop-length}
 use Rattle.octets.specs.Octets.{Octets}
 use Rattle.octets.specs.Lent.{over, Writes}
-use Rattle.octets.specs.declared.Written.{Written}
 use Rattle.octets.proofs.LentLaws.{rest_of}
 use Rattle.txt.specs.Answers.{joined}
 use Rattle.txt_read.specs.code.Steps.{is_there, or_empty, Room, Copies}
-use Rattle.txt_read.proofs.ScratchLaws.{part, rest, wrote, onto, onto_there, onto_text}
+use Rattle.txt_read.proofs.ScratchLaws.{part, rest, wrote, onto_there, onto_text}
 use Rattle.txt_read.proofs.StringLaws.{no_strings, apart, string_within, string_length}
+use Rattle.octets.specs.declared.Refusal.{Refusal}
 
 -- some octets of a text stand in the front of memory, the others are to come, and what lies behind is as it was
 pub record Copied (text others : Option Octets) (before now : Octets) (at : ℕ) : Type 0 where
@@ -49,7 +49,7 @@ module _ (text : Option Octets) (l before now : Octets) (at : ℕ) (c : Copied t
     next_within = string_within l k e h (rest at now) room_left
 
     -- one string more
-    module _ (r : Written) (m₁ : Octets) (w : Writes (part 1 (k + 1) l) (rest at now) r m₁) where
+    module _ (r : Result ℕ Refusal) (m₁ : Octets) (w : Writes (part 1 (k + 1) l) (rest at now) r m₁) where
       abbrev s : Octets
       s = part 1 (k + 1) l
 

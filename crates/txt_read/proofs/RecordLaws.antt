@@ -2,27 +2,25 @@
 use mathlib.Core.Path.{◌≡◌, refl, ap, sym, ◌∙◌}
 use mathlib.Core.List.{List, [], ◌∷◌, flatten}
 use mathlib.Core.Bool.{Bool, true, false, ◌&&◌, false≢true, and-false, and-eq-true_iff}
-use mathlib.Core.Option.{Option, none as nothing, some as just, map}
 use Prim.Native.Nat.{ℕ, zero, suc, ◌+◌, ◌-◌, ◌≤◌, ◌<◌}
 use native.Mathlib.Omega.{arith}
 use lib.Dec.{eqb}
 use lib.ListN.{length, get_or}
-use Rattle.std.specs.Prelude.{if◌then◌else◌}
+use Rattle.std.specs.Prelude.{if◌then◌else◌, Some, None, Option, option_map}
 use Rattle.octets.specs.Octets.{Octets, octets, same}
 use Rattle.octets.specs.Framing.{mark_of, size_of, body_of, after_record, is_whole}
 use Rattle.octets.specs.Lent.{over}
 use Rattle.octets.proofs.LentLaws.{rest_of}
 use Rattle.octets.proofs.FramingLaws.{whole, not_whole, whole_fits, mark_octets}
-use Rattle.policy.specs.declared.Reading.{Reading}
 use Rattle.policy.specs.Records.{read_policy}
 use Rattle.txt_found.specs.declared.Found.{Found}
 use Rattle.txt_found.specs.code.Finding.{found_of, add_found}
 use Rattle.txt_found.proofs.FoundLaws.{found_more}
 use Rattle.txt.specs.Answers.{push, joined, rdata_text, push_read, is_text_record, texts_of, policy_records}
 use Rattle.txt_read.specs.code.Steps.{is_there, or_empty, front_of, all_texts, Room, Copies, Finds}
-use Rattle.txt_read.specs.declared.Front.{Front}
 use Rattle.txt_read.proofs.StringLaws.{read_joined}
 use Rattle.txt_read.proofs.ScratchLaws.{part, rest, onto, first_fits, written, Begun, begun}
+use Rattle.policy.specs.declared.Settings.{Settings}
 
 -- RDATA of k octets of the record at the front, and what follows the record, as the code takes them
 abbrev pub rdata : ℕ → Octets → Octets
@@ -35,9 +33,9 @@ others k bs = rest (k + 4) bs
 
 pub first_there : (o : Option Octets) (ts : Option (List Octets)) → is_there (push_read o ts) ≡ (is_there o && is_there ts)
 unfolding push push_read
-first_there nothing ts = refl
-first_there (just t) nothing = refl
-first_there (just t) (just ts) = refl
+first_there None ts = refl
+first_there (Some t) None = refl
+first_there (Some t) (Some ts) = refl
 
 both_there : (o : Option Octets) (ts : Option (List Octets)) → is_there (push_read o ts) ≡ true → (is_there o ≡ true) × (is_there ts ≡ true)
 both_there o ts t = (and-eq-true_iff (is_there o) (is_there ts)).0 (sym (first_there o ts) ∙ t)
@@ -45,17 +43,17 @@ both_there o ts t = (and-eq-true_iff (is_there o) (is_there ts)).0 (sym (first_t
 -- ------------------------------------------------------------------ the first record, as the code reads it
 
 module _ (t : Octets) where
-  front_is : (x : Bool) (k : ℕ) → (if x then Front.Record (size_of t) else Front.Unreadable) ≡ Front.Record k → (x ≡ true) × (size_of t ≡ k)
+  front_is : (x : Bool) (k : ℕ) → (if x then Some (size_of t) else None) ≡ Some k → (x ≡ true) × (size_of t ≡ k)
   front_is true k f = (refl, cc)
   front_is false k f = let z : ◌≡◌ {A = ℕ} 0 1 = cc in absurd (omega arith)
 
-  front_not : (x : Bool) → (if x then Front.Record (size_of t) else Front.Unreadable) ≡ Front.Unreadable → x ≡ false
+  front_not : (x : Bool) → (if x then Some (size_of t) else None) ≡ None → x ≡ false
   front_not true f = let z : ◌≡◌ {A = ℕ} 0 1 = cc in absurd (omega arith)
   front_not false f = refl
 
 -- a text that begins with no whole record of text, as the returns of `read_front` have it
 module _ (t : Octets) where
-  pub short_front : length t < 4 + size_of t → Front.Unreadable ≡ front_of t
+  pub short_front : length t < 4 + size_of t → None ≡ front_of t
   unfolding front_of is_text_record
   short_front h = rw (not_whole t h, and-false (same (mark_of t) (octets "TX")))
 
@@ -64,11 +62,11 @@ module _ (t : Octets) where
     unfolding octets
     marked = mark_octets t 84 88 two
 
-    pub no_mark : (eqb (get_or t 0 0) 84 && eqb (get_or t 1 0) 88) ≡ false → Front.Unreadable ≡ front_of t
+    pub no_mark : (eqb (get_or t 0 0) 84 && eqb (get_or t 1 0) 88) ≡ false → None ≡ front_of t
     unfolding front_of is_text_record
     no_mark e = rw (marked, e)
 
-    pub record_front : (eqb (get_or t 0 0) 84 && eqb (get_or t 1 0) 88) ≡ true → 4 + size_of t ≤ length t → Front.Record (size_of t) ≡ front_of t
+    pub record_front : (eqb (get_or t 0 0) 84 && eqb (get_or t 1 0) 88) ≡ true → 4 + size_of t ≤ length t → Some (size_of t) ≡ front_of t
     unfolding front_of is_text_record
     record_front e h = rw (marked, e, whole t h)
 
@@ -82,7 +80,7 @@ unfolding texts_of
 texts_whole n [] h e = absurd (omega arith)
 texts_whole n (b ∷ bs) h e = rw (e, texts_of)
 
-pub first : (bs : Octets) (k : ℕ) → front_of bs ≡ Front.Record k → First bs k
+pub first : (bs : Octets) (k : ℕ) → front_of bs ≡ Some k → First bs k
 unfolding front_of is_text_record body_of after_record
 first bs k f =
     let p = front_is bs (is_text_record bs) k f in
@@ -102,19 +100,19 @@ whether {bs} {k} f (suc n) z =
     rw r (ap is_there (f.texts n) ∙ first_there (rdata_text (rdata k bs)) (texts_of n (others k bs)))
 
 -- no record stands at the front
-pub unreadable : (n : ℕ) (bs : Octets) → (length bs ≡ 0 → ⊥) → front_of bs ≡ Front.Unreadable → texts_of n bs ≡ nothing
+pub unreadable : (n : ℕ) (bs : Octets) → (length bs ≡ 0 → ⊥) → front_of bs ≡ None → texts_of n bs ≡ None
 unfolding texts_of front_of
 unreadable n [] h f = absurd (h refl)
 unreadable zero (b ∷ bs) h f = refl
 unreadable (suc n) (b ∷ bs) h f = rw (front_not (b ∷ bs) (is_text_record (b ∷ bs)) f, texts_of)
 
-pub no_octets : (n : ℕ) (bs : Octets) → length bs ≡ 0 → texts_of n bs ≡ just []
+pub no_octets : (n : ℕ) (bs : Octets) → length bs ≡ 0 → texts_of n bs ≡ Some []
 unfolding texts_of
 no_octets zero [] h = refl
 no_octets (suc n) [] h = refl
 no_octets n (b ∷ bs) h = absurd (omega arith)
 
-pub no_budget : (bs : Octets) → (length bs ≡ 0 → ⊥) → texts_of 0 bs ≡ nothing
+pub no_budget : (bs : Octets) → (length bs ≡ 0 → ⊥) → texts_of 0 bs ≡ None
 unfolding texts_of
 no_budget [] h = absurd (h refl)
 no_budget (b ∷ bs) h = refl
@@ -126,9 +124,9 @@ more_budget zero (b ∷ bs) t = absurd (false≢true (sym (ap is_there (no_budge
 more_budget (suc n) [] t = no_octets (suc (suc n)) [] refl ∙ sym (no_octets (suc n) [] refl)
 more_budget (suc n) (b ∷ bs) t = go (λ l. more_budget n l) (front_of (b ∷ bs)) refl
   where
-    go : ((l : Octets) → is_there (texts_of n l) ≡ true → texts_of (suc n) l ≡ texts_of n l) → (f : Front) → front_of (b ∷ bs) ≡ f → texts_of (suc (suc n)) (b ∷ bs) ≡ texts_of (suc n) (b ∷ bs)
-    go again Front.Unreadable e = unreadable (suc (suc n)) (b ∷ bs) (λ z. omega arith) e ∙ sym (unreadable (suc n) (b ∷ bs) (λ z. omega arith) e)
-    go again (Front.Record k) e =
+    go : ((l : Octets) → is_there (texts_of n l) ≡ true → texts_of (suc n) l ≡ texts_of n l) → (f : Option ℕ) → front_of (b ∷ bs) ≡ f → texts_of (suc (suc n)) (b ∷ bs) ≡ texts_of (suc n) (b ∷ bs)
+    go again None e = unreadable (suc (suc n)) (b ∷ bs) (λ z. omega arith) e ∙ sym (unreadable (suc n) (b ∷ bs) (λ z. omega arith) e)
+    go again (Some k) e =
         let f = first (b ∷ bs) k e in
         let o = rdata_text (rdata k (b ∷ bs)) in
         let l = others k (b ∷ bs) in
@@ -136,40 +134,40 @@ more_budget (suc n) (b ∷ bs) t = go (λ l. more_budget n l) (front_of (b ∷ b
 
 -- ------------------------------------------------------------------ the texts, one after another
 
-pub map_there : (o : Option (List Octets)) → is_there (map flatten o) ≡ is_there o
-map_there nothing = refl
-map_there (just ts) = refl
+pub map_there : (o : Option (List Octets)) → is_there (option_map flatten o) ≡ is_there o
+map_there None = refl
+map_there (Some ts) = refl
 
-pub map_flat : (o : Option (List Octets)) → or_empty (map flatten o) ≡ flatten (or_empty o)
+pub map_flat : (o : Option (List Octets)) → or_empty (option_map flatten o) ≡ flatten (or_empty o)
 unfolding flatten
-map_flat nothing = refl
-map_flat (just ts) = refl
+map_flat None = refl
+map_flat (Some ts) = refl
 
-first_onto : (o : Option Octets) (ts : Option (List Octets)) → is_there o ≡ true → map flatten (push_read o ts) ≡ onto (or_empty o) (map flatten ts)
+first_onto : (o : Option Octets) (ts : Option (List Octets)) → is_there o ≡ true → option_map flatten (push_read o ts) ≡ onto (or_empty o) (option_map flatten ts)
 unfolding push push_read onto flatten
-first_onto nothing ts t = absurd (false≢true t)
-first_onto (just t) nothing p = refl
-first_onto (just t) (just ts) p = refl
+first_onto None ts t = absurd (false≢true t)
+first_onto (Some t) None p = refl
+first_onto (Some t) (Some ts) p = refl
 
 first_of : (o : Option Octets) (ts : Option (List Octets)) → is_there o ≡ true → is_there ts ≡ true → or_empty (push_read o ts) ≡ or_empty o ∷ or_empty ts
 unfolding push push_read
-first_of nothing ts t u = absurd (false≢true t)
-first_of (just t) nothing p u = absurd (false≢true u)
-first_of (just t) (just ts) p u = refl
+first_of None ts t u = absurd (false≢true t)
+first_of (Some t) None p u = absurd (false≢true u)
+first_of (Some t) (Some ts) p u = refl
 
 -- the answer ends where no record stands
-ended : (bs : Octets) → front_of bs ≡ Front.Unreadable → is_there (texts_of 16 bs) ≡ true → texts_of 16 bs ≡ just []
+ended : (bs : Octets) → front_of bs ≡ None → is_there (texts_of 16 bs) ≡ true → texts_of 16 bs ≡ Some []
 ended [] f t = no_octets 16 [] refl
 ended (b ∷ bs) f t = absurd (false≢true (sym (ap is_there (unreadable 16 (b ∷ bs) (λ e. omega arith) f)) ∙ t))
 
-pub finds_nothing : (bs m : Octets) → front_of bs ≡ Front.Unreadable → Room (all_texts bs) m → Finds bs m Found.Nothing m
+pub finds_nothing : (bs m : Octets) → front_of bs ≡ None → Room (all_texts bs) m → Finds bs m Found.Nothing m
 unfolding all_texts policy_records found_of over flatten
 finds_nothing bs m f room =
     let e = ended bs f (sym (map_there (texts_of 16 bs)) ∙ room.reads) in
     record { answers = rw e; leaves = rw e }
 
 -- a readable answer with a record of k octets of RDATA at its front, and memory m with room for its texts
-module _ (bs : Octets) (k : ℕ) (f : front_of bs ≡ Front.Record k) (m : Octets) (room : Room (all_texts bs) m) where
+module _ (bs : Octets) (k : ℕ) (f : front_of bs ≡ Some k) (m : Octets) (room : Room (all_texts bs) m) where
   there : (is_there (rdata_text (rdata k bs)) ≡ true) × (is_there (texts_of 15 (others k bs)) ≡ true)
   unfolding all_texts
   there =
@@ -190,7 +188,7 @@ module _ (bs : Octets) (k : ℕ) (f : front_of bs ≡ Front.Record k) (m : Octet
 
   both : all_texts bs ≡ onto (or_empty (joined 0 (rdata k bs))) (all_texts (others k bs))
   unfolding all_texts
-  both = ap (map flatten) apart ∙ first_onto (joined 0 (rdata k bs)) (texts_of 16 (others k bs)) text_there
+  both = ap (option_map flatten) apart ∙ first_onto (joined 0 (rdata k bs)) (texts_of 16 (others k bs)) text_there
 
   room_for_both : Room (onto (or_empty (joined 0 (rdata k bs))) (all_texts (others k bs))) m
   room_for_both = rw both at room
@@ -204,7 +202,7 @@ module _ (bs : Octets) (k : ℕ) (f : front_of bs ≡ Front.Record k) (m : Octet
     text_copied = rw both (begun (or_empty (joined 0 (rdata k bs))) m (all_texts (others k bs)) room_for_both j c.answers m₁ c.leaves)
 
     -- and with the policy records of the rest, those of the answer are found
-    pub found_with : (r : Reading) (f₁ : Found) → r ≡ read_policy (part 0 j m₁) → f₁ ≡ found_of (policy_records (or_empty (texts_of 16 (others k bs))))
+    pub found_with : (r : Option Settings) (f₁ : Found) → r ≡ read_policy (part 0 j m₁) → f₁ ≡ found_of (policy_records (or_empty (texts_of 16 (others k bs))))
         → add_found r f₁ ≡ found_of (policy_records (or_empty (texts_of 16 bs)))
     unfolding policy_records
     found_with r f₁ p q =

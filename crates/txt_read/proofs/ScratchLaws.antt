@@ -1,8 +1,8 @@
 -- Laws of parts of lent memory: parts as the code takes them, and a text written on from where another ended.
+use Rattle.std.specs.Prelude.{Result, Option, None, Some, option_map}
 use mathlib.Core.Path.{◌≡◌, refl, ap, sym, ◌∙◌}
 use mathlib.Core.List.{[], ◌++◌, append-nil, append_assoc}
 use mathlib.Core.Bool.{true, false≢true}
-use mathlib.Core.Option.{Option, none as nothing, some as just, map}
 use Prim.Native.Nat.{ℕ, ◌+◌, ◌-◌, ◌≤◌}
 use native.Mathlib.Omega.{arith}
 use borrow.Author.Tests.{le-leb}
@@ -11,9 +11,9 @@ use lib.ListN.{length, take, drop, length-drop, length-append}
 use lib.Seq.{take_at, drop_at, drop-drop, drop-length}
 use Rattle.octets.specs.Octets.{Octets}
 use Rattle.octets.specs.Lent.{over, fits, left, Writes}
-use Rattle.octets.specs.declared.Written.{Written}
 use Rattle.octets.proofs.LentLaws.{rest_of}
 use Rattle.txt_read.specs.code.Steps.{is_there, or_empty, Room}
+use Rattle.octets.specs.declared.Refusal.{Refusal}
 
 -- the octets of l from a to b, and from a on
 abbrev pub part : ℕ → ℕ → Octets → Octets
@@ -23,23 +23,23 @@ abbrev pub rest : ℕ → Octets → Octets
 rest a l = part a (length l) l
 
 -- a writer leaves its text in front where there is room
-pub wrote : (s m : Octets) (r : Written) (m₁ : Octets) → length s ≤ length m → Writes s m r m₁ → m₁ ≡ over s m
+pub wrote : (s m : Octets) (r : Result ℕ Refusal) (m₁ : Octets) → length s ≤ length m → Writes s m r m₁ → m₁ ≡ over s m
 unfolding left fits
 wrote s m r m₁ h w = rw (le-leb _ _ h) at w.leaves
 
 -- a text in front of what could be read
 unfoldable pub onto : Octets → Option Octets → Option Octets
-onto s o = map (λ t. s ++ t) o
+onto s o = option_map (λ t. s ++ t) o
 
 pub onto_there : (s : Octets) (o : Option Octets) → is_there (onto s o) ≡ is_there o
 unfolding onto
-onto_there s nothing = refl
-onto_there s (just t) = refl
+onto_there s None = refl
+onto_there s (Some t) = refl
 
 pub onto_text : (s : Octets) (o : Option Octets) → is_there (onto s o) ≡ true → or_empty (onto s o) ≡ s ++ or_empty o
 unfolding onto
-onto_text s nothing r = absurd (false≢true r)
-onto_text s (just t) r = refl
+onto_text s None r = absurd (false≢true r)
+onto_text s (Some t) r = refl
 
 -- the first k octets of a text are written, and the others are still to come, from there on
 pub record Begun (text others : Option Octets) (before now : Octets) (k : ℕ) : Type 0 where

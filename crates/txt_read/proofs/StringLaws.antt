@@ -1,8 +1,8 @@
 -- Laws of character-strings: the first one, and what follows it.
+use Rattle.std.specs.Prelude.{Result, Option, None, Some}
 use mathlib.Core.Path.{◌≡◌, refl, ap, sym, ◌∙◌}
 use mathlib.Core.List.{[], ◌∷◌}
 use mathlib.Core.Bool.{Bool, true, false, false≢true}
-use mathlib.Core.Option.{Option, none as nothing, some as just}
 use Prim.Native.Nat.{ℕ, zero, suc, ◌+◌, ◌-◌, ◌≤◌, ◌<◌}
 use native.Mathlib.Numerals.{add-one}
 use native.Mathlib.Omega.{arith}
@@ -12,21 +12,21 @@ use lib.ListN.{length, take, drop, get_or, length-drop}
 use lib.Seq.{length-take-le}
 use Rattle.octets.specs.Octets.{Octets}
 use Rattle.octets.specs.Lent.{Writes}
-use Rattle.octets.specs.declared.Written.{Written}
 use Rattle.octets.proofs.LentLaws.{rest_of}
 use Rattle.txt.specs.Answers.{push, joined, rdata_text}
 use Rattle.txt_read.specs.code.Steps.{is_there, Room}
 use Rattle.txt_read.proofs.ScratchLaws.{part, rest, wrote, onto, onto_there, first_fits, Begun, begun}
+use Rattle.octets.specs.declared.Refusal.{Refusal}
 
 push_onto : (b : ℕ) (s : Octets) (o : Option Octets) → push b (onto s o) ≡ onto (b ∷ s) o
 unfolding push onto
-push_onto b s nothing = refl
-push_onto b s (just t) = refl
+push_onto b s None = refl
+push_onto b s (Some t) = refl
 
 onto_nothing : (o : Option Octets) → o ≡ onto [] o
 unfolding onto
-onto_nothing nothing = refl
-onto_nothing (just t) = refl
+onto_nothing None = refl
+onto_nothing (Some t) = refl
 
 -- a character-string that fits, and the next one after it
 string_fits : (n : ℕ) (bs : Octets) → n ≤ length bs → joined n bs ≡ onto (take n bs) (joined 0 (drop n bs))
@@ -36,13 +36,13 @@ string_fits (suc n) [] h = absurd (omega arith)
 string_fits (suc n) (b ∷ bs) h = ap (push b) (string_fits n bs (omega arith)) ∙ push_onto b (take n bs) (joined 0 (drop n bs))
 
 -- one that runs past the end
-string_short : (n : ℕ) (bs : Octets) → length bs < n → joined n bs ≡ nothing
+string_short : (n : ℕ) (bs : Octets) → length bs < n → joined n bs ≡ None
 unfolding joined push
 string_short zero bs h = absurd (omega arith)
 string_short (suc n) [] h = refl
 string_short (suc n) (b ∷ bs) h = ap (push b) (string_short n bs (omega arith))
 
-first_short : (l : Octets) → 0 < length l → length l < get_or l 0 0 + 1 → joined 0 l ≡ nothing
+first_short : (l : Octets) → 0 < length l → length l < get_or l 0 0 + 1 → joined 0 l ≡ None
 unfolding joined
 first_short [] h r = absurd (omega arith)
 first_short (n ∷ bs) h r = string_short n bs (omega arith)
@@ -52,12 +52,12 @@ unfolding joined
 first_string [] h r = absurd (omega arith)
 first_string (n ∷ bs) h r = rw (add-one n) (string_fits n bs (omega arith))
 
-pub no_strings : (l : Octets) → length l ≡ 0 → joined 0 l ≡ just []
+pub no_strings : (l : Octets) → length l ≡ 0 → joined 0 l ≡ Some []
 unfolding joined
 no_strings [] h = refl
 no_strings (n ∷ bs) h = absurd (omega arith)
 
-pub no_text : (l : Octets) → length l ≡ 0 → rdata_text l ≡ nothing
+pub no_text : (l : Octets) → length l ≡ 0 → rdata_text l ≡ None
 unfolding rdata_text
 no_text [] h = refl
 no_text (n ∷ bs) h = absurd (omega arith)
@@ -98,7 +98,7 @@ module _ (l : Octets) (k : ℕ) (e : k ≡ get_or l 0 0) (h : 0 < length l) wher
         let q : k + 1 - 1 ≡ k = omega arith in
         rw (q, length-take-le k (drop 1 l) (omega (arith, string_within, length-drop 1 l)))
 
-    pub string_written : (r : Written) (m₁ : Octets) → Writes (part 1 (k + 1) l) m r m₁ → Begun (joined 0 l) (joined 0 (rest (k + 1) l)) m m₁ k
+    pub string_written : (r : Result ℕ Refusal) (m₁ : Octets) → Writes (part 1 (k + 1) l) m r m₁ → Begun (joined 0 l) (joined 0 (rest (k + 1) l)) m m₁ k
     string_written r m₁ w =
         let s = part 1 (k + 1) l in
         let o = joined 0 (rest (k + 1) l) in

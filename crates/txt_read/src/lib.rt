@@ -1,7 +1,7 @@
 // An answer's octets: whether they can be read, and the text of one record.
 #![tactic(auto)]
 
-ghost use Rattle.std.specs.Prelude.{◌≡◌, ◌≤◌};
+ghost use Rattle.std.specs.Prelude.{◌≡◌};
 ghost use Rattle.txt.specs.Answers.{rdata_text, texts_of, texts_read};
 ghost use Rattle.txt_read.specs.code.Steps.{is_there, front_of};
 
@@ -10,54 +10,30 @@ const ANSWER_OCTETS: usize = 4096;
 
 const ANSWER_RECORDS: usize = 16;
 
-// What stands at the front of an answer: a record, with the length of its RDATA, or none.
-#[derive(Clone, Copy)]
-pub enum Front {
-    Record(usize),
-    Unreadable,
-}
-
-// An octet as a number.
-pub fn wide(b: u8) -> usize
-    ensures { (result ≡ b) × (result ≤ 255) }
-{
-    b as usize
-}
-
 // The record at the front.
-pub fn read_front(bytes: &[u8]) -> Front
+pub fn read_front(bytes: &[u8]) -> Option<usize>
     ensures { result ≡ front_of bytes.now }
 {
-    if bytes.len() < 4 {
-        return Front::Unreadable;
+    if bytes.len() < 4 || bytes[0] != b'T' || bytes[1] != b'X' {
+        return None;
     }
-    if bytes[0] != b'T' {
-        return Front::Unreadable;
-    }
-    if bytes[1] != b'X' {
-        return Front::Unreadable;
-    }
-    let n = wide(bytes[2]) * 256 + wide(bytes[3]);
-    if bytes.len() - 4 < n {
-        return Front::Unreadable;
-    }
-    Front::Record(n)
+    let n = usize::from(bytes[2]) * 256 + usize::from(bytes[3]);
+    if n <= bytes.len() - 4 { Some(n) } else { None }
 }
 
 // Whether RDATA is character-strings, at least one, that fill it.
 fn is_text(rdata: &[u8]) -> bool
     ensures { result ≡ is_there (rdata_text rdata.now) }
 {
-    if rdata.len() == 0 {
+    if rdata.is_empty() {
         return false;
     }
     let mut rest = rdata;
-    while 0 < rest.len() {
-        let k = wide(rest[0]);
-        if rest.len() - 1 < k {
+    while let [size, ..] = rest {
+        let next = usize::from(*size) + 1;
+        if rest.len() < next {
             return false;
         }
-        let next = k + 1;
         rest = &rest[next..];
     }
     true
@@ -67,30 +43,23 @@ fn is_text(rdata: &[u8]) -> bool
 fn are_records(bytes: &[u8], budget: usize) -> bool
     ensures { result ≡ is_there (texts_of budget bytes.now) }
 {
-    if bytes.len() == 0 {
+    if bytes.is_empty() {
         return true;
     }
     if budget == 0 {
         return false;
     }
-    let Front::Record(n) = read_front(bytes) else {
+    let Some(n) = read_front(bytes) else {
         return false;
     };
     let end = n + 4;
-    if is_text(&bytes[4..end]) {
-        // The rest of the answer is read as an answer again.
-        are_records(&bytes[end..], budget - 1)
-    } else {
-        false
-    }
+    // The rest of the answer is read as an answer again.
+    is_text(&bytes[4..end]) && are_records(&bytes[end..], budget - 1)
 }
 
 // Whether an answer's octets can be read within the limits.
 pub fn is_readable(bytes: &[u8]) -> bool
     ensures { result ≡ is_there (texts_read bytes.now) }
 {
-    if ANSWER_OCTETS < bytes.len() {
-        return false;
-    }
-    are_records(bytes, ANSWER_RECORDS)
+    bytes.len() <= ANSWER_OCTETS && are_records(bytes, ANSWER_RECORDS)
 }

@@ -3,14 +3,12 @@
 
 ghost use Rattle.std.specs.Prelude.{◌≡◌};
 ghost use Rattle.txt.specs.Answers.{answer_of, joined};
-ghost use Rattle.octets.specs.Refusing.{refusal};
 ghost use Rattle.txt.specs.Taking.{Takes};
 ghost use Rattle.txt_read.specs.code.Steps.{all_texts, Room, Copies, Finds};
 
 use octets::Refusal;
-use txt::{Reply, Status, Taken};
+use txt::{Reply, Status};
 use txt_found::Found;
-use txt_read::Front;
 
 const SCRATCH: usize = 4096;
 
@@ -21,12 +19,12 @@ fn copy_strings(strings: &[u8], out: &mut [u8]) -> usize
 {
     let mut rest = strings;
     let mut at: usize = 0;
-    while 0 < rest.len() {
-        let k = txt_read::wide(rest[0]);
+    while let [size, ..] = rest {
+        let k = usize::from(*size);
         let next = k + 1;
-        // The unfilled part is lent on for the next string.
-        octets_write::write(&rest[1..next], &mut out[at..]);
-        at = at + k;
+        // The unfilled part is lent on for the next string, and has room for it.
+        let _ = octets_write::write(&rest[1..next], &mut out[at..]);
+        at += k;
         rest = &rest[next..];
     }
     at
@@ -37,7 +35,7 @@ fn take_records(bytes: &[u8], scratch: &mut [u8]) -> Found
     requires { Room (all_texts bytes.now) scratch.old }
     ensures { Finds bytes.now scratch.old result scratch.new }
 {
-    let Front::Record(n) = txt_read::read_front(bytes) else {
+    let Some(n) = txt_read::read_front(bytes) else {
         return Found::Nothing;
     };
     let end = n + 4;
@@ -48,32 +46,21 @@ fn take_records(bytes: &[u8], scratch: &mut [u8]) -> Found
     txt_found::add_found(first, others)
 }
 
-// A refusal, with its number and place.
-fn refuse_answer(number: u8, place: usize) -> Taken
-    ensures { result ≡ Taken.Refused (refusal number place) }
-{
-    Taken::Refused(Refusal { number, place })
-}
-
 // Takes an answer: what it says of its name, with its texts left in the scratch, or a refusal.
-pub fn take_answer(status: Status, bytes: &[u8], scratch: &mut [u8]) -> Taken
+pub fn take_answer(status: Status, bytes: &[u8], scratch: &mut [u8]) -> Result<Reply, Refusal>
     ensures { Takes (answer_of status bytes.now) scratch.old result scratch.new }
 {
-    // None and error leave here, before any record is read.
-    let Status::Records = status else {
-        if scratch.len() < SCRATCH {
-            return refuse_answer(10, SCRATCH);
-        }
-        let Status::Error = status else {
-            return Taken::Reply(Reply::NoRecord);
-        };
-        return Taken::Reply(Reply::Error);
-    };
-    if !txt_read::is_readable(bytes) {
-        return refuse_answer(6, 0);
+    match status {
+        Status::Records if !txt_read::is_readable(bytes) => Err(Refusal {
+            number: 6,
+            place: 0,
+        }),
+        _ if scratch.len() < SCRATCH => Err(Refusal {
+            number: 10,
+            place: SCRATCH,
+        }),
+        Status::Records => Ok(txt_found::reply_of(take_records(bytes, scratch))),
+        Status::NoRecords => Ok(Reply::NoRecord),
+        Status::Error => Ok(Reply::Error),
     }
-    if scratch.len() < SCRATCH {
-        return refuse_answer(10, SCRATCH);
-    }
-    Taken::Reply(txt_found::reply_of(take_records(bytes, scratch)))
 }

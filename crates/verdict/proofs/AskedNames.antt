@@ -1,8 +1,8 @@
 -- The names that an evaluation may ask, whatever the answers: those of walks from its message's domains, none of which ends in a dot.
+use Rattle.std.specs.Prelude.{Some, None, Option}
 use mathlib.Core.Path.{◌≡◌, refl, sym, subst, ◌∙◌}
 use mathlib.Core.List.{List, [], ◌∷◌, map}
 use mathlib.Core.Bool.{Bool, true, false, ◌&&◌, ◌||◌, false≢true}
-use mathlib.Core.Option.{Option, none as nothing}
 use Prim.Native.Nat.{ℕ, suc, ◌<◌}
 use native.Mathlib.Omega.{arith}
 use lib.ListN.{length, get_or}
@@ -14,7 +14,6 @@ use Rattle.lookup.proofs.BoundLaws.{AllIn, all_in_left, all_in_right, all_in_sel
 use Rattle.domain.specs.Domain.{Domain, without_dot, is_domain, targets, asked_name}
 use Rattle.domain.proofs.DotLaws.{asked_undotted}
 use Rattle.policy.specs.declared.Settings.{Settings}
-use Rattle.force.specs.declared.InForce.{InForce}
 use Rattle.force.specs.InForce.{in_force}
 use Rattle.txt.specs.declared.Reply.{Reply}
 use Rattle.alignment.specs.Alignments.{Identifier, settled_alignment, must_walk, align, align_each, alignments}
@@ -53,14 +52,14 @@ module _ (m : Message) where
   unfolding l message_domains walks_names domains
   within_each s o = within_align_each l s m.author o m.identifiers (all_in_right (walk_names m.author) (walks_names domains) _ (all_in_self _))
 
-  within_judge_by : (b : Bool) (d : Domain) (f : InForce) → Within l (judge_by m b d f)
+  within_judge_by : (b : Bool) (d : Domain) (f : Option Settings) → Within l (judge_by m b d f)
   unfolding judge_by alignments Within
-  within_judge_by b d InForce.NotUsable = tt
-  within_judge_by b d (InForce.Usable s) =
+  within_judge_by b d None = tt
+  within_judge_by b d (Some s) =
       within_bind l (alignments s m.author m.identifiers) _
       (within_if l (any (must_walk s m.author) m.identifiers) _ _
       (within_bind l (organizational_domain m.author) _ (within_organizational l m.author author_in) (within_each s))
-      (within_each s nothing))
+      (within_each s None))
       λ as'. tt
 
   within_judge : (a : Applied) → Within l (judge m a)

@@ -1,7 +1,7 @@
 -- Real answers for errors change no verdict but temperror.
+use Rattle.std.specs.Prelude.{Some, None, Option}
 use mathlib.Core.Path.{◌≡◌, refl, ap, ap₂, sym, ◌∙◌, subst}
 use mathlib.Core.Bool.{Bool, true, false, ◌&&◌, ◌||◌, true≢false, false≢true}
-use mathlib.Core.Option.{Option, none as nothing, some as just}
 use Rattle.octets.specs.Octets.{is_nothing, same}
 use Rattle.octets.proofs.ListLaws.{any_weaker, neither}
 use Rattle.lookup.specs.Lookup.{Name, Lookups, path, value}
@@ -10,7 +10,6 @@ use Rattle.lookup.proofs.BoundLaws.{value_bind}
 use Rattle.lookup.proofs.ReadingLaws.{value_reading}
 use Rattle.domain.specs.Domain.{Domain}
 use Rattle.policy.specs.declared.Settings.{Settings}
-use Rattle.force.specs.declared.InForce.{InForce}
 use Rattle.force.specs.InForce.{in_force}
 use Rattle.txt.specs.declared.Reply.{Reply}
 use Rattle.txt.specs.Answers.{Answer, records, no_records, lookup_error, reply}
@@ -38,11 +37,11 @@ itself : (v : Verdict) → OneRecord v v
 itself v = record { policy = refl; domain = refl; disposition = λ e. refl }
 
 module _ (α β : Name → Reply) (m : Message) where
-  one_in_force : (b : Bool) (d : Domain) (s : InForce) → OneRecord (value α (judge_by m b d s)) (value β (judge_by m b d s))
+  one_in_force : (b : Bool) (d : Domain) (s : Option Settings) → OneRecord (value α (judge_by m b d s)) (value β (judge_by m b d s))
   unfolding judge_by value verdict_of
-  one_in_force b d InForce.NotUsable = itself (unjudged m d Result.Permerror _)
-  one_in_force b d (InForce.Usable s) =
-      subst (λ v. OneRecord v (value β (judge_by m b d (InForce.Usable s)))) (sym (value_bind α (alignments s m.author m.identifiers) _))
+  one_in_force b d None = itself (unjudged m d Result.Permerror _)
+  one_in_force b d (Some s) =
+      subst (λ v. OneRecord v (value β (judge_by m b d (Some s)))) (sym (value_bind α (alignments s m.author m.identifiers) _))
       (subst (OneRecord _) (sym (value_bind β (alignments s m.author m.identifiers) _))
       (record { policy = refl; domain = refl; disposition = λ e. ap (disposition_of m.support (policy_of b m.existence s)) e }))
 
@@ -60,12 +59,12 @@ evaluated α m = value_bind α (applied_record m.author) (judge m)
 -- ------------------------------------------------------------------ a pass rests on a usable record
 
 module _ (α : Name → Reply) (m : Message) where
-  passing_in : (b : Bool) (d : Domain) (s : InForce) → is_pass (value α (judge_by m b d s)).result ≡ true → (t : Settings) × (s ≡ InForce.Usable t)
+  passing_in : (b : Bool) (d : Domain) (s : Option Settings) → is_pass (value α (judge_by m b d s)).result ≡ true → (t : Settings) × (s ≡ Some t)
   unfolding judge_by value unjudged verdict_of is_pass
-  passing_in b d InForce.NotUsable e = absurd (false≢true e)
-  passing_in b d (InForce.Usable s) e = (s, refl)
+  passing_in b d None e = absurd (false≢true e)
+  passing_in b d (Some s) e = (s, refl)
 
-  passing : (a : Applied) → is_pass (value α (judge m a)).result ≡ true → (t : Settings) × (applied_settings a ≡ InForce.Usable t) × (is_not_known a ≡ false)
+  passing : (a : Applied) → is_pass (value α (judge m a)).result ≡ true → (t : Settings) × (applied_settings a ≡ Some t) × (is_not_known a ≡ false)
   unfolding judge value unjudged verdict_of is_pass applied_settings is_not_known
   passing not_known e = absurd (false≢true e)
   passing no_record e = absurd (false≢true e)
@@ -92,9 +91,9 @@ only_pass Result.Permerror e h = absurd (false≢true e)
 
 known_both : (x y : Option Domain) → same_organization x y ≡ true → (is_nothing x ≡ false) × (is_nothing y ≡ false)
 unfolding same_organization is_nothing
-known_both nothing y e = absurd (false≢true e)
-known_both (just a) nothing e = absurd (false≢true e)
-known_both (just a) (just b) e = (refl, refl)
+known_both None y e = absurd (false≢true e)
+known_both (Some a) None e = absurd (false≢true e)
+known_both (Some a) (Some b) e = (refl, refl)
 
 still_so : (p q r x y : Bool) → (x ≡ true → y ≡ true) → (p && (q || r && x)) ≡ true → (p && (q || r && y)) ≡ true
 still_so false q r x y h e = e

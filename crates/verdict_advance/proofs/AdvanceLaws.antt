@@ -1,8 +1,8 @@
 -- What the proofs of the functions cite that begin an evaluation and move it on.
+use Rattle.std.specs.Prelude.{Some, None, Option}
 use mathlib.Core.Path.{◌≡◌, refl, ap, sym, ◌∙◌}
 use mathlib.Core.List.{List, [], ◌∷◌}
 use mathlib.Core.Bool.{Bool, true, false}
-use mathlib.Core.Option.{Option, none as nothing, some as just}
 use Prim.Native.Nat.{ℕ, ◌-◌, ◌≤◌, ◌<◌}
 use native.Mathlib.Omega.{arith}
 use lib.Dec.{leb}
@@ -15,8 +15,7 @@ use Rattle.domain.specs.Domain.{can_ask, asked_name}
 use Rattle.txt.specs.declared.Reply.{Reply}
 use Rattle.alignment_stored.specs.code.Stored.{slot, identifier_at}
 use Rattle.walk_progress.specs.code.Stored.{still_open}
-use Rattle.walk_known.specs.declared.Looked.{Looked}
-use Rattle.walk_known.specs.code.Kept.{looked, looked_at}
+use Rattle.walk_known.specs.code.Kept.{looked_at}
 use Rattle.walk_progress.specs.declared.Reach.{Reach}
 use Rattle.walk_progress.specs.declared.Stop.{Stop}
 use Rattle.walk_progress.specs.code.Stops.{ReachesAfter}
@@ -37,31 +36,31 @@ use Rattle.verdict_own.specs.code.Own.{Owns}
 
 module _ (β : Answers Reply) (m : Message) where
   -- by what is known of the author's own name
-  unfoldable begin_by : Looked → Cursor
-  begin_by Looked.Missing = cursor still_open [] on_own_name
-  begin_by (Looked.Known r) = own_on β m r
+  unfoldable begin_by : Option Reply → Cursor
+  begin_by None = cursor still_open [] on_own_name
+  begin_by (Some r) = own_on β m r
 
   begin_looked : begin_on β m ≡ begin_by (looked_at β m.author)
-  unfolding begin_on begin_by looked_at looked
+  unfolding begin_on begin_by looked_at
   begin_looked = go (can_ask m.author) refl
     where
-      asked : (o : Option Reply) → (elim o as (λ _. Cursor) [ nothing ↦ cursor still_open [] on_own_name | just r ↦ own_on β m r ]) ≡ begin_by (looked o)
-      asked nothing = refl
-      asked (just r) = refl
+      asked : (o : Option Reply) → (elim o as (λ _. Cursor) [ None ↦ cursor still_open [] on_own_name | Some r ↦ own_on β m r ]) ≡ begin_by o
+      asked None = refl
+      asked (Some r) = refl
 
       go : (b : Bool) → can_ask m.author ≡ b → begin_on β m ≡ begin_by (looked_at β m.author)
       go true e = rw (e, begin_on) (asked (find β (asked_name m.author)))
       go false e = rw (e, begin_on)
 
 module _ (domains : Octets) (numbers : List ℕ) (t : Terms) (β : Answers Reply) where
-  pub begins_missing : (before : List ℕ) → Looked.Missing ≡ looked_at β (slot domains numbers 0) → Begins domains numbers t β before before Place.OwnName
+  pub begins_missing : (before : List ℕ) → None ≡ looked_at β (slot domains numbers 0) → Begins domains numbers t β before before Place.OwnName
   unfolding begin_by cursor_in stored_message
   begins_missing before e = record {
     place = ap (begin_by β (stored_message domains numbers t)) e ∙ sym (begin_looked β (stored_message domains numbers t));
     only = λ z. only_at_open domains numbers t before Place.OwnName _ refl z;
   }
 
-  pub begins_known : (before after : List ℕ) (p : Place) (r : Reply) → Looked.Known r ≡ looked_at β (slot domains numbers 0) → Owns domains numbers t β r before after p → Begins domains numbers t β before after p
+  pub begins_known : (before after : List ℕ) (p : Place) (r : Reply) → Some r ≡ looked_at β (slot domains numbers 0) → Owns domains numbers t β r before after p → Begins domains numbers t β before after p
   unfolding begin_by stored_message
   begins_known before after p r e f = stands_same f (ap (begin_by β (stored_message domains numbers t)) e ∙ sym (begin_looked β (stored_message domains numbers t)))
 

@@ -9,7 +9,6 @@ use domain::Octet;
 use txt::Reply;
 use verdict_cursor::{Place, Position, Ruling};
 use verdict_judgement::Terms;
-use walk_known::Looked;
 use walk_progress::Stop;
 
 // Where an evaluation stands at first.
@@ -25,8 +24,8 @@ pub fn begin<'a>(
 {
     let author = alignment_stored::slot(domains, numbers, 0);
     match walk_known::look_at(domains, kept, count, author, Octet(0)) {
-        Looked::Missing => verdict_place::own_name(),
-        Looked::Known(r) => verdict_own::own(domains, numbers, kept, count, t, r, stored),
+        None => verdict_place::own_name(),
+        Some(r) => verdict_own::own(domains, numbers, kept, count, t, r, stored),
     }
 }
 
@@ -45,10 +44,7 @@ fn advance_identifier<'a>(
 ) -> Position
     ensures { Moves domains.now numbers.now t (kept_answers domains.now count kept.now) stored.old (Place.Identifier ruling walk stop) r stored.new (place_in result) }
 {
-    if walk < 1 {
-        return verdict_place::identifier(ruling, walk, stop);
-    }
-    if text_parts::smaller(t.identifiers, 16) < walk {
+    if walk < 1 || t.identifiers.min(16) < walk {
         return verdict_place::identifier(ruling, walk, stop);
     }
     let d = alignment_stored::slot(domains, numbers, walk);
@@ -70,8 +66,7 @@ pub fn advance<'a>(
     ensures { Moves domains.now numbers.now t (kept_answers domains.now count kept.now) stored.old (place_in from) r stored.new (place_in result) }
 {
     let author = alignment_stored::slot(domains, numbers, 0);
-    let p = verdict_place::read(from);
-    match p {
+    match verdict_place::read(from) {
         Place::OwnName => verdict_own::own(domains, numbers, kept, count, t, r, stored),
         Place::Author(stop) => {
             let w = walk_reach::reach_after(domains, kept, count, author, stop, r);

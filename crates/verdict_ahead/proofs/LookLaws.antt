@@ -36,18 +36,18 @@ module _ (t : Terms) where
   looks_own = record { standing = λ domains numbers stored. refl; within = omega arith }
 
   -- on a walk
-  module _ (s : Stop) (at : Octet) (e : at ≡ s.target.begin) where
-    pub looks_author : Looks t (Place.Author s) (Ahead.Target 0 at)
+  module _ (s : Stop) where
+    pub looks_author : Looks t (Place.Author s) (Ahead.Target 0 s.target.begin)
     unfolding ahead_standing AheadWithin stands stands_at cursor_in pause_in stored_message
-    looks_author = record { standing = λ domains numbers stored. rw e; within = omega arith }
+    looks_author = record { standing = λ domains numbers stored. refl; within = omega arith }
 
-    pub looks_completing : (ruling : Ruling) → Looks t (Place.Completing ruling s) (Ahead.Target 0 at)
+    pub looks_completing : (ruling : Ruling) → Looks t (Place.Completing ruling s) (Ahead.Target 0 s.target.begin)
     unfolding ahead_standing AheadWithin stands stands_at cursor_in pause_in stored_message
-    looks_completing ruling = record { standing = λ domains numbers stored. rw e; within = omega arith }
+    looks_completing ruling = record { standing = λ domains numbers stored. refl; within = omega arith }
 
-    pub looks_identifier : (ruling : Ruling) (walk : ℕ) → (leb 1 walk && leb walk (min t.identifiers 16)) ≡ true → Looks t (Place.Identifier ruling walk s) (Ahead.Target walk at)
+    pub looks_identifier : (ruling : Ruling) (walk : ℕ) → (leb 1 walk && leb walk (min t.identifiers 16)) ≡ true → Looks t (Place.Identifier ruling walk s) (Ahead.Target walk s.target.begin)
     unfolding ahead_standing AheadWithin stands stands_at cursor_in pause_in given_count identifier_at
-    looks_identifier ruling walk f = record { standing = λ domains numbers stored. rw (f, e); within = go (dec_le walk 16) }
+    looks_identifier ruling walk f = record { standing = λ domains numbers stored. rw f; within = go (dec_le walk 16) }
       where
         go : Dec (walk ≤ 16) → walk ≤ 16
         go (yes h) = h

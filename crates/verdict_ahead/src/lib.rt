@@ -10,7 +10,6 @@ use policy::Policy;
 use verdict::{AppliedPolicy, Result};
 use verdict_cursor::{Place, Position, Ruling};
 use verdict_judgement::Terms;
-use walk_progress::Stop;
 
 // What is ahead of an evaluation: a target without an answer, by its walk and place; the verdict that judges no identifier;
 // or the one by the alignments.
@@ -28,39 +27,28 @@ pub enum Ahead {
     Aligning(Ruling),
 }
 
-// What an evaluation waits for: nothing, or the answer at a target, by its walk and place.
+// A target: its walk, and where it begins in that walk's domain.
 #[derive(Clone, Copy)]
-pub enum Waiting {
-    Nothing,
-    For { walk: usize, place: Octet },
-}
-
-// Where the target begins whose answer an open walk lacks.
-fn target_place(s: Stop) -> Octet
-    ensures { result ≡ s.target.begin }
-{
-    s.target.begin
+pub struct Asked {
+    pub walk: usize,
+    pub place: Octet,
 }
 
 // Whether a walk is that of an identifier.
 fn is_given(t: Terms, walk: usize) -> bool
     ensures { result ≡ (leb 1 walk && leb walk (min t.identifiers 16)) }
 {
-    if walk < 1 {
-        return false;
-    }
-    walk <= text_parts::smaller(t.identifiers, 16)
+    1 <= walk && walk <= t.identifiers.min(16)
 }
 
 // The verdict that judges no identifier, with policy none.
 fn look_unjudged(begin: Octet, res: Result) -> Ahead
     ensures { result ≡ Ahead.Unjudged begin res (AppliedPolicy.Known Policy.None) }
 {
-    let policy = AppliedPolicy::Known(Policy::None);
     Ahead::Unjudged {
         begin,
         result: res,
-        policy,
+        policy: AppliedPolicy::Known(Policy::None),
     }
 }
 
@@ -75,20 +63,21 @@ fn look_from(t: Terms, p: Place) -> Ahead
         },
         Place::Author(stop) => Ahead::Target {
             walk: 0,
-            place: target_place(stop),
+            place: stop.target.begin,
         },
-        Place::Completing { ruling: _, stop } => Ahead::Target {
+        Place::Completing { stop, .. } => Ahead::Target {
             walk: 0,
-            place: target_place(stop),
+            place: stop.target.begin,
         },
         Place::Identifier { ruling, walk, stop } => {
             if is_given(t, walk) {
-                return Ahead::Target {
+                Ahead::Target {
                     walk,
-                    place: target_place(stop),
-                };
+                    place: stop.target.begin,
+                }
+            } else {
+                Ahead::Aligning(ruling)
             }
-            Ahead::Aligning(ruling)
         }
         Place::NotKnown => Ahead::Unjudged {
             begin: Octet(253),
@@ -105,21 +94,16 @@ fn look_from(t: Terms, p: Place) -> Ahead
 pub fn look_ahead(t: Terms, at: Position) -> Ahead
     ensures { Looks t (place_in at) result }
 {
-    let p = verdict_place::read(at);
-    look_from(t, p)
+    look_from(t, verdict_place::read(at))
 }
 
-// What an evaluation waits for.
-pub fn find_target(t: Terms, at: Position) -> Waiting
+// The target whose answer an evaluation waits for, if it waits for one.
+pub fn find_target(t: Terms, at: Position) -> Option<Asked>
     ensures { Waits t (place_in at) result }
 {
     match look_ahead(t, at) {
-        Ahead::Target { walk, place } => Waiting::For { walk, place },
-        Ahead::Unjudged {
-            begin: _,
-            result: _,
-            policy: _,
-        } => Waiting::Nothing,
-        Ahead::Aligning(_) => Waiting::Nothing,
+        Ahead::Target { walk, place } => Some(Asked { walk, place }),
+        Ahead::Unjudged { .. } => None,
+        Ahead::Aligning(_) => None,
     }
 }

@@ -15,8 +15,7 @@ use walk_progress::Reach;
 pub fn put_number(number: u16, stored: &mut [u16; 17])
     ensures { WritesAuthor stored.old stored.new (stored_of number) }
 {
-    let cells: &mut [u16] = stored;
-    cells[0] = number;
+    stored[0] = number;
 }
 
 // The author's walk stored, as far as it has gone.
@@ -24,8 +23,7 @@ pub fn store<'a>(domains: &'a [u8], numbers: &'a [u16], w: Reach, stored: &mut [
     ensures { StoresAuthor domains.now numbers.now w stored.old stored.new }
 {
     let author = alignment_stored::slot(domains, numbers, 0);
-    let number = walk_turn::stored_number(author, w);
-    put_number(number, stored);
+    put_number(walk_turn::stored_number(author, w), stored);
 }
 
 // The author's walk stored, and then all identifiers compared.

@@ -1,8 +1,8 @@
 -- What the proofs of the functions that compare identifiers cite.
+use Rattle.std.specs.Prelude.{None}
 use mathlib.Core.Path.{◌≡◌, refl, sym, subst}
 use mathlib.Core.List.{List, [], ◌∷◌, ◌++◌}
 use mathlib.Core.Bool.{Bool, true, false}
-use mathlib.Core.Option.{none as nothing}
 use Prim.Native.Nat.{ℕ, ◌+◌, ◌-◌, ◌≤◌, ◌<◌}
 use native.Mathlib.Omega.{arith}
 use lib.ListN.{length, drop, set}
@@ -50,7 +50,7 @@ module _ (β : Answers Reply) (m : Message) (d : Domain) (s : Settings) (p : App
   unfolding after_passed passed_at passed_by
   compare_next = go (is_walked (settled_alignment s m.author i) (stored_domain m.author st)) refl
     where
-      walked : is_walked (settled_alignment s m.author i) (stored_domain m.author st) ≡ true → (w : Reached) → reach β i.domain nothing (targets i.domain) ≡ w → compare_on β m d s p st ws (i ∷ is) ≡ after_passed (passed_by i.domain w)
+      walked : is_walked (settled_alignment s m.author i) (stored_domain m.author st) ≡ true → (w : Reached) → reach β i.domain None (targets i.domain) ≡ w → compare_on β m d s p st ws (i ∷ is) ≡ after_passed (passed_by i.domain w)
       walked e (pauses q) f = compare_pauses β m d s p st ws i is e q f
       walked e (over w) f = compare_over β m d s p st ws i is e w f
 

@@ -35,9 +35,8 @@ pub fn compare<'a>(
 {
     let s = ruling.settings;
     let author = stored[0];
-    let last = text_parts::smaller(t.identifiers, 16);
-    let mut walk = text_parts::smaller(passed, last) + 1;
-    while walk <= last {
+    let last = t.identifiers.min(16);
+    for walk in passed.min(last) + 1..last + 1 {
         match verdict_pass::pass_at(domains, numbers, kept, count, s, author, walk) {
             Passing::Stops(stop) => {
                 return verdict_place::identifier(ruling, walk, stop);
@@ -46,7 +45,6 @@ pub fn compare<'a>(
                 store(stored, walk, number);
             }
         }
-        walk = walk + 1;
     }
     verdict_place::judged(ruling)
 }
@@ -65,10 +63,7 @@ pub fn compare_after<'a>(
 ) -> Position
     ensures { ComparesWalk domains.now numbers.now t (kept_answers domains.now count kept.now) stored.old ruling walk w stored.new (place_in result) }
 {
-    if walk < 1 {
-        return verdict_place::judged(ruling);
-    }
-    if text_parts::smaller(t.identifiers, 16) < walk {
+    if walk < 1 || t.identifiers.min(16) < walk {
         return verdict_place::judged(ruling);
     }
     match verdict_pass::pass(alignment_stored::slot(domains, numbers, walk), w) {

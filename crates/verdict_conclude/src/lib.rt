@@ -18,19 +18,17 @@ use verdict_cursor::{Position, Ruling};
 use verdict_judgement::{Judged, Judgement, Terms};
 
 // The result that the alignments give.
+#[tactic(auto, unfolding(verdict_judgement::specs::code::Judging::tally_result))]
 fn find_result(t: Tally) -> Result
     ensures { result ≡ tally_result t }
 {
     if t.aligned {
-        return Result::Pass;
+        Result::Pass
+    } else if t.unknown || t.temporary {
+        Result::Temperror
+    } else {
+        Result::Fail
     }
-    if t.unknown {
-        return Result::Temperror;
-    }
-    if t.temporary {
-        return Result::Temperror;
-    }
-    Result::Fail
 }
 
 // The verdict with a result and a policy.
@@ -79,13 +77,10 @@ fn judge_each<'a>(
     ensures { Concludes domains.now numbers.now t (has (verdict_by domains.now numbers.now t stored.now ruling)) (Judged.Done result) }
 {
     let author = alignment_stored::slot(domains, numbers, 0);
-    let from = ruling.begin;
-    let policy = ruling.policy;
-    let settings = ruling.settings;
-    let begin = domain_labels::clip(author, from);
-    let tally = verdict_tally::tally(domains, numbers, stored, t, settings);
-    let result = verdict_policies::with_policy(policy, find_result(tally));
-    conclude(t.support, begin, result, policy, tally.digits)
+    let begin = domain_labels::clip(author, ruling.begin);
+    let tally = verdict_tally::tally(domains, numbers, stored, t, ruling.settings);
+    let result = verdict_policies::with_policy(ruling.policy, find_result(tally));
+    conclude(t.support, begin, result, ruling.policy, tally.digits)
 }
 
 // Where an evaluation stands: at a target without an answer, or at the verdict.

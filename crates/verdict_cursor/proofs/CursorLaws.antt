@@ -2,11 +2,9 @@
 use mathlib.Core.Path.{◌≡◌, refl, ap, ap₂, sym, ◌∙◌, subst}
 use mathlib.Core.List.{List, [], ◌∷◌, ◌++◌, map, map-append, append_assoc, append-nil}
 use mathlib.Core.Bool.{Bool, true, false, ◌||◌, true≢false}
-use mathlib.Core.Option
-use mathlib.Core.Option.{Option, none as nothing, some as just}
 use Prim.Native.Nat.{ℕ, zero, suc}
 use lib.ListN.{get_or}
-use Rattle.std.specs.Prelude.{if◌then◌else◌}
+use Rattle.std.specs.Prelude.{if◌then◌else◌, Some, None, option_map, Option}
 use Rattle.octets.specs.Octets.{is_nothing, any}
 use Rattle.lookup.specs.Lookup.{Name, done, ◌>>=◌, Answers, find, Standing, needs, has, run, run_over}
 use Rattle.lookup.specs.code.Following.{Follows}
@@ -14,7 +12,6 @@ use Rattle.lookup.proofs.RunLaws.{find_new, needs_injective, has≢needs}
 use Rattle.lookup.proofs.FollowLaws.{follows_same, follows_on, follows_more, follows_run}
 use Rattle.domain.specs.Domain.{Domain, targets, can_ask, asked_name}
 use Rattle.policy.specs.declared.Settings.{Settings}
-use Rattle.force.specs.declared.InForce.{InForce}
 use Rattle.force.specs.InForce.{in_force}
 use Rattle.txt.specs.declared.Reply.{Reply}
 use Rattle.alignment.specs.declared.Alignment.{Alignment}
@@ -43,15 +40,15 @@ pass_order : (ws : List (Identifier × Stored)) (w : Identifier × Stored) (is i
 pass_order ws w is ids e = ap (λ l. l ++ is) (map-append (λ x. x.0) ws (w ∷ [])) ∙ append_assoc (map (λ x. x.0) ws) (w.0 ∷ []) is ∙ e
 
 -- identifiers that need no walk are not compared with the author's organizational domain
-settled_each : (s : Settings) (author : Domain) (o : Option Domain) (is : List Identifier) → any (must_walk s author) is ≡ false → align_each s author nothing is ≡ align_each s author o is
+settled_each : (s : Settings) (author : Domain) (o : Option Domain) (is : List Identifier) → any (must_walk s author) is ≡ false → align_each s author None is ≡ align_each s author o is
 unfolding any must_walk align_each align align_by is_nothing
 settled_each s author o [] e = refl
 settled_each s author o (i ∷ is) e = go (settled_each s author o is) (settled_alignment s author i) e
   where
-    go : (any (must_walk s author) is ≡ false → align_each s author nothing is ≡ align_each s author o is) → (x : Option Alignment) → (is_nothing x || any (must_walk s author) is) ≡ false
-        → (align_by x nothing i.domain >>= λ a. align_each s author nothing is >>= λ l. done (a ∷ l)) ≡ (align_by x o i.domain >>= λ a. align_each s author o is >>= λ l. done (a ∷ l))
-    go ih nothing h = absurd (true≢false h)
-    go ih (just a) h = ap (λ t. done a >>= λ b. t >>= λ l. done (b ∷ l)) (ih h)
+    go : (any (must_walk s author) is ≡ false → align_each s author None is ≡ align_each s author o is) → (x : Option Alignment) → (is_nothing x || any (must_walk s author) is) ≡ false
+        → (align_by x None i.domain >>= λ a. align_each s author None is >>= λ l. done (a ∷ l)) ≡ (align_by x o i.domain >>= λ a. align_each s author o is >>= λ l. done (a ∷ l))
+    go ih None h = absurd (true≢false h)
+    go ih (Some a) h = ap (λ t. done a >>= λ b. t >>= λ l. done (b ∷ l)) (ih h)
 
 -- ------------------------------------------------------------------ numbers
 
@@ -66,16 +63,16 @@ zero_snoc (w ∷ ws) i z zero = z zero
 zero_snoc (w ∷ ws) i z (suc k) = zero_snoc ws i (λ j. z (suc j)) k
 
 -- the number of a walk that has ended
-number_ended : (d : Domain) (w : Option Summary) → number_in (stored_in d (ended w)) ≡ ended_number d (Option.map (λ x. x.organization) w)
+number_ended : (d : Domain) (w : Option Summary) → number_in (stored_in d (ended w)) ≡ ended_number d (option_map (λ x. x.organization) w)
 unfolding number_in stored_in ended_number
-number_ended d nothing = refl
-number_ended d (just w) = refl
+number_ended d None = refl
+number_ended d (Some w) = refl
 
 module _ (β : Answers Reply) (s : Settings) (author : Domain) (ws : List (Identifier × Stored)) where
   -- one more, with its number
-  passed_snoc : (o : Domain) (w : Identifier × Stored) → Passed β s author ws (just o)
+  passed_snoc : (o : Domain) (w : Identifier × Stored) → Passed β s author ws (Some o)
       → ((γ : Answers Reply) (is : List Identifier) → numbers_each (β ++ γ) s author (w.0 ∷ is) ≡ number_in w.1 ∷ numbers_each (β ++ γ) s author is)
-      → Passed β s author (ws ++ (w ∷ [])) (just o)
+      → Passed β s author (ws ++ (w ∷ [])) (Some o)
   unfolding Passed
   passed_snoc o w a b = λ γ is.
       ap (numbers_each (β ++ γ) s author) (pass_order ws w is (map (λ x. x.0) ws ++ w.0 ∷ is) refl)
@@ -87,12 +84,12 @@ module _ (β : Answers Reply) (s : Settings) (author : Domain) (ws : List (Ident
   -- that needs no walk
   passed_settled : (o : Option Domain) (i : Identifier) → must_walk s author i ≡ false → Passed β s author ws o → Passed β s author (ws ++ ((i, still_open) ∷ [])) o
   unfolding numbers_each number_in
-  passed_settled nothing i e a = unfold Passed in zero_snoc ws i a
-  passed_settled (just o) i e a = passed_snoc o (i, still_open) a (λ γ is. rw (e, numbers_each))
+  passed_settled None i e a = unfold Passed in zero_snoc ws i a
+  passed_settled (Some o) i e a = passed_snoc o (i, still_open) a (λ γ is. rw (e, numbers_each))
 
   -- whose walk has ended
-  passed_ended : (o : Domain) (i : Identifier) (w : Option Summary) → must_walk s author i ≡ true → KeptWalk β i.domain (ended w) → Passed β s author ws (just o)
-      → Passed β s author (ws ++ ((i, stored_in i.domain (ended w)) ∷ [])) (just o)
+  passed_ended : (o : Domain) (i : Identifier) (w : Option Summary) → must_walk s author i ≡ true → KeptWalk β i.domain (ended w) → Passed β s author ws (Some o)
+      → Passed β s author (ws ++ ((i, stored_in i.domain (ended w)) ∷ [])) (Some o)
   unfolding numbers_each once_ended
   passed_ended o i w e k a =
       passed_snoc o (i, stored_in i.domain (ended w)) a
@@ -100,11 +97,11 @@ module _ (β : Answers Reply) (s : Settings) (author : Domain) (ws : List (Ident
 
   passed_stays : (γ : Answers Reply) (o : Option Domain) → Passed β s author ws o → Passed (β ++ γ) s author ws o
   unfolding Passed
-  passed_stays γ nothing a = a
-  passed_stays γ (just o) a = λ δ is.
+  passed_stays γ None a = a
+  passed_stays γ (Some o) a = λ δ is.
       subst (λ x. numbers_each x s author (map (λ w. w.0) ws ++ is) ≡ numbers_in ws ++ numbers_each x s author is) (sym (append_assoc β γ δ)) (a (γ ++ δ) is)
 
-  passed_now : (o : Domain) → Passed β s author ws (just o) → (is : List Identifier) → numbers_each β s author (map (λ w. w.0) ws ++ is) ≡ numbers_in ws ++ numbers_each β s author is
+  passed_now : (o : Domain) → Passed β s author ws (Some o) → (is : List Identifier) → numbers_each β s author (map (λ w. w.0) ws ++ is) ≡ numbers_in ws ++ numbers_each β s author is
   unfolding Passed
   passed_now o a is = subst (λ x. numbers_each x s author (map (λ w. w.0) ws ++ is) ≡ numbers_in ws ++ numbers_each x s author is) (append-nil β) (a [] is)
 
@@ -122,34 +119,34 @@ module _ (β : Answers Reply) (m : Message) where
   Rest o ns = (walk : ℕ) → get_or ns walk 0 ≡ get_or (numbers_walked β m (settings_so_far (run_over β (applied_record m.author))) o) walk 0
 
   -- where it is unknown none is walked; else it does not matter which it is
-  rest_unknown : (f : InForce) → numbers_walked β m f nothing ≡ []
+  rest_unknown : (f : Option Settings) → numbers_walked β m f None ≡ []
   unfolding numbers_walked
-  rest_unknown InForce.NotUsable = refl
-  rest_unknown (InForce.Usable s) = refl
+  rest_unknown None = refl
+  rest_unknown (Some s) = refl
 
-  rest_known : (f : InForce) (o p : Domain) → numbers_walked β m f (just o) ≡ numbers_walked β m f (just p)
+  rest_known : (f : Option Settings) (o p : Domain) → numbers_walked β m f (Some o) ≡ numbers_walked β m f (Some p)
   unfolding numbers_walked
-  rest_known InForce.NotUsable o p = refl
-  rest_known (InForce.Usable s) o p = refl
+  rest_known None o p = refl
+  rest_known (Some s) o p = refl
 
   numbered : (st : Stored) → st ≡ stored_now β m.author → (ns : List ℕ) → Rest (stored_domain m.author st) ns
       → (walk : ℕ) → get_or (number_in st ∷ ns) walk 0 ≡ get_or (numbers_stored β m) walk 0
   unfolding Rest stored_now stored_by stored_domain number_in numbers_stored once_ended ended_number
   numbered st e ns h = go (run_over β (organizational_domain m.author)) e
     where
-      rules : InForce
+      rules : Option Settings
       rules = settings_so_far (run_over β (applied_record m.author))
 
       go : (u : Standing (Option Domain)) → st ≡ stored_by m.author u → (walk : ℕ) → get_or (number_in st ∷ ns) walk 0 ≡ get_or (once_ended m.author u (numbers_walked β m rules)) walk 0
       go (needs n) f zero = ap number_in f
       go (needs n) f (suc k) = subst (λ x. Rest (stored_domain m.author x) ns) f h k ∙ ap (λ l. get_or l k 0) (rest_unknown rules)
-      go (has nothing) f zero = ap number_in f
-      go (has nothing) f (suc k) = subst (λ x. Rest (stored_domain m.author x) ns) f h k
-      go (has (just o)) f zero = ap number_in f
-      go (has (just o)) f (suc k) = subst (λ x. Rest (stored_domain m.author x) ns) f h k ∙ ap (λ l. get_or l k 0) (rest_known rules _ o)
+      go (has None) f zero = ap number_in f
+      go (has None) f (suc k) = subst (λ x. Rest (stored_domain m.author x) ns) f h k
+      go (has (Some o)) f zero = ap number_in f
+      go (has (Some o)) f (suc k) = subst (λ x. Rest (stored_domain m.author x) ns) f h k ∙ ap (λ l. get_or l k 0) (rest_known rules _ o)
 
   -- none is walked without settings in force
-  rest_none : (o : Option Domain) (a : Applied) → Follows β (applied_record m.author) (done a) → applied_settings a ≡ InForce.NotUsable → Rest o []
+  rest_none : (o : Option Domain) (a : Applied) → Follows β (applied_record m.author) (done a) → applied_settings a ≡ None → Rest o []
   unfolding Rest numbers_walked
   rest_none o a f e = λ k. rw (settings_now a f, e, numbers_walked)
 
@@ -157,8 +154,8 @@ module _ (β : Answers Reply) (m : Message) where
   rest_passed : (s : Settings) → InForceIs β m s → (ws : List (Identifier × Stored)) (o : Option Domain) → Passed β s m.author ws o
       → (is : List Identifier) → map (λ w. w.0) ws ++ is ≡ m.identifiers → numbers_each β s m.author is ≡ [] → Rest o (numbers_in ws)
   unfolding InForceIs Rest numbers_walked Passed
-  rest_passed s (a, (f, e)) ws nothing h is order none = λ k. h k ∙ ap (λ l. get_or l k 0) (sym (rest_unknown (settings_so_far (run_over β (applied_record m.author)))))
-  rest_passed s (a, (f, e)) ws (just o) h is order none = λ k.
+  rest_passed s (a, (f, e)) ws None h is order none = λ k. h k ∙ ap (λ l. get_or l k 0) (sym (rest_unknown (settings_so_far (run_over β (applied_record m.author)))))
+  rest_passed s (a, (f, e)) ws (Some o) h is order none = λ k.
       rw (settings_now a f, e, numbers_walked)
       (ap (λ l. get_or l k 0) (sym (ap (numbers_each β s m.author) (sym order) ∙ passed_now β s m.author ws o h is ∙ ap (λ l. numbers_in ws ++ l) none ∙ append-nil (numbers_in ws))))
 
@@ -193,7 +190,7 @@ module _ (β : Answers Reply) (m : Message) where
         (k : KeptStage β m (comparing d s p (stored_domain m.author st) (alignments_read s m.author st ws) (i ∷ is)))
         (fresh : st ≡ stored_now β m.author) (ruled : InForceIs β m s) (all : Passed β s m.author ws (stored_domain m.author st)) (order : map (λ w. w.0) ws ++ i ∷ is ≡ m.identifiers) where
       -- with the author's organizational domain, an identifier whose walk has come so far
-      compares_reached : (e : settled_alignment s m.author i ≡ nothing) (o : Domain) (f : stored_domain m.author st ≡ just o) (w : Reached) → KeptReached β i.domain w
+      compares_reached : (e : settled_alignment s m.author i ≡ None) (o : Domain) (f : stored_domain m.author st ≡ Some o) (w : Reached) → KeptReached β i.domain w
           → KeptCursor β m (compare_reached β m d s p st ws i is (λ l. compare_on β m d s p st l is) w)
       unfolding compare_reached stage_of PointWaits Compares progress_of read_by must_walk is_nothing numbers_of
       compares_reached e o f (pauses q) r = record {
@@ -205,33 +202,33 @@ module _ (β : Answers Reply) (m : Message) where
       }
       compares_reached e o f (over w) r =
           on (ws ++ ((i, stored_in i.domain (ended w)) ∷ []))
-          (passes ws i (stored_in i.domain (ended w)) nothing e (just o) f (compared o (Option.map (λ x. x.organization) w)) (ap (compared o) ((reaching_claims β i.domain).same_domain w r.places)) is
+          (passes ws i (stored_in i.domain (ended w)) None e (Some o) f (compared o (option_map (λ x. x.organization) w)) (ap (compared o) ((reaching_claims β i.domain).same_domain w r.places)) is
           ((stage_claims β m).compares (subst (λ z. KeptStage β m (comparing d s p z (alignments_read s m.author st ws) (i ∷ is))) f k) e r.walk))
           fresh ruled
           (subst (Passed β s m.author (ws ++ ((i, stored_in i.domain (ended w)) ∷ []))) (sym f) (passed_ended β s m.author ws o i w (ap is_nothing e) r.walk (subst (Passed β s m.author ws) f all)))
           (pass_order ws (i, stored_in i.domain (ended w)) is m.identifiers order)
 
-      walked : KeptReached β i.domain (reach β i.domain nothing (targets i.domain))
+      walked : KeptReached β i.domain (reach β i.domain None (targets i.domain))
       unfolding not_begun
-      walked = (reaching_claims β i.domain).reaches nothing (targets i.domain) (reaching_claims β i.domain).begins.0 (reaching_claims β i.domain).begins.1
+      walked = (reaching_claims β i.domain).reaches None (targets i.domain) (reaching_claims β i.domain).begins.0 (reaching_claims β i.domain).begins.1
 
       compares_first : (x : Option Alignment) → settled_alignment s m.author i ≡ x → (o : Option Domain) → stored_domain m.author st ≡ o
           → KeptCursor β m (elim (is_walked x o) as (λ _. Cursor) [
-            | true ↦ compare_reached β m d s p st ws i is (λ l. compare_on β m d s p st l is) (reach β i.domain nothing (targets i.domain))
+            | true ↦ compare_reached β m d s p st ws i is (λ l. compare_on β m d s p st l is) (reach β i.domain None (targets i.domain))
             | false ↦ compare_on β m d s p st (ws ++ ((i, still_open) ∷ [])) is
           ])
       unfolding is_walked Compares read_by must_walk is_nothing
-      compares_first (just a) e o f =
+      compares_first (Some a) e o f =
           on (ws ++ ((i, still_open) ∷ []))
-          (passes ws i still_open (just a) e o f a refl is ((stage_claims β m).settles (subst (λ z. KeptStage β m (comparing d s p z (alignments_read s m.author st ws) (i ∷ is))) f k) a e))
+          (passes ws i still_open (Some a) e o f a refl is ((stage_claims β m).settles (subst (λ z. KeptStage β m (comparing d s p z (alignments_read s m.author st ws) (i ∷ is))) f k) a e))
           fresh ruled (passed_settled β s m.author ws (stored_domain m.author st) i (ap is_nothing e) all) (pass_order ws (i, still_open) is m.identifiers order)
-      compares_first nothing e nothing f =
+      compares_first None e None f =
           on (ws ++ ((i, still_open) ∷ []))
-          (passes ws i still_open nothing e nothing f Alignment.Unknown refl is ((stage_claims β m).unknown (subst (λ z. KeptStage β m (comparing d s p z (alignments_read s m.author st ws) (i ∷ is))) f k) e))
+          (passes ws i still_open None e None f Alignment.Unknown refl is ((stage_claims β m).unknown (subst (λ z. KeptStage β m (comparing d s p z (alignments_read s m.author st ws) (i ∷ is))) f k) e))
           fresh ruled
           (subst (Passed β s m.author (ws ++ ((i, still_open) ∷ []))) (sym f) (unfold Passed in zero_snoc ws i (subst (Passed β s m.author ws) f all)))
           (pass_order ws (i, still_open) is m.identifiers order)
-      compares_first nothing e (just o) f = compares_reached e o f (reach β i.domain nothing (targets i.domain)) walked
+      compares_first None e (Some o) f = compares_reached e o f (reach β i.domain None (targets i.domain)) walked
 
     compares_all : (is : List Identifier) → Compares d s p st is
     unfolding Compares compare_on stage_of PointWaits numbers_of numbers_each
@@ -247,8 +244,8 @@ module _ (β : Answers Reply) (m : Message) where
   -- before the first
   none_passed : (s : Settings) (o : Option Domain) → Passed β s m.author [] o
   unfolding Passed
-  none_passed s nothing = λ k. refl
-  none_passed s (just o) = λ γ is. refl
+  none_passed s None = λ k. refl
+  none_passed s (Some o) = λ γ is. refl
 
   -- at an open walk of the author
   open_numbers : still_open ≡ stored_now β m.author → (walk : ℕ) → get_or (number_in still_open ∷ []) walk 0 ≡ get_or (numbers_stored β m) walk 0
@@ -273,12 +270,12 @@ module _ (β : Answers Reply) (m : Message) where
   module _ (st : Stored) (fresh : st ≡ stored_now β m.author) (w : Reached) (r : KeptReached β m.author w) where
     module _ (a : Applied) (known : Follows β (applied_record m.author) (done a)) where
       -- at a verdict without alignments
-      ends_at : (v : Verdict) → applied_settings a ≡ InForce.NotUsable → KeptStage β m (finished v) → KeptCursor β m (cursor st [] (at_verdict v))
+      ends_at : (v : Verdict) → applied_settings a ≡ None → KeptStage β m (finished v) → KeptCursor β m (cursor st [] (at_verdict v))
       unfolding stage_of PointWaits numbers_of
       ends_at v e k = record { stage = k; waits = tt; author = fresh; numbers = numbered β m st fresh [] (rest_none β m (stored_domain m.author st) a known e) }
 
-      judges_usable : (d : Domain) (s : Settings) (p : AppliedPolicy) → applied_settings a ≡ InForce.Usable s → (b : Bool) → any (must_walk s m.author) m.identifiers ≡ b
-          → KeptStage β m (if b then completing d s p else comparing d s p nothing [] m.identifiers)
+      judges_usable : (d : Domain) (s : Settings) (p : AppliedPolicy) → applied_settings a ≡ Some s → (b : Bool) → any (must_walk s m.author) m.identifiers ≡ b
+          → KeptStage β m (if b then completing d s p else comparing d s p None [] m.identifiers)
           → KeptCursor β m (if b then complete_reached β m d s p w else compare_on β m d s p st [] m.identifiers)
       unfolding Compares alignments_read left InForceIs
       judges_usable d s p u true e k = completes_reached d s p k (a, (known, u)) w r
@@ -287,10 +284,10 @@ module _ (β : Answers Reply) (m : Message) where
           (record { follows = follows_on k.follows (follows_same (ap (λ t. t >>= λ l. done (concluded m d p l)) (settled_each s m.author (stored_domain m.author st) m.identifiers e))) })
           fresh (a, (known, u)) (none_passed s (stored_domain m.author st)) refl
 
-      judges : (b : Bool) (d : Domain) (x : InForce) → applied_settings a ≡ x → KeptStage β m (in_force_stage m b d x) → KeptCursor β m (judge_on β m st w b d x)
+      judges : (b : Bool) (d : Domain) (x : Option Settings) → applied_settings a ≡ x → KeptStage β m (in_force_stage m b d x) → KeptCursor β m (judge_on β m st w b d x)
       unfolding in_force_stage judge_on
-      judges b d InForce.NotUsable e k = ends_at _ e k
-      judges b d (InForce.Usable s) e k = judges_usable d s (policy_of b m.existence s) e (any (must_walk s m.author) m.identifiers) refl k
+      judges b d None e k = ends_at _ e k
+      judges b d (Some s) e k = judges_usable d s (policy_of b m.existence s) e (any (must_walk s m.author) m.identifiers) refl k
 
     applies : (x : Applied) → Follows β (applied_record m.author) (done x) → KeptStage β m (applied_stage m x) → KeptCursor β m (apply β m st w x)
     unfolding applied_stage apply applied_settings
@@ -308,45 +305,45 @@ module _ (β : Answers Reply) (m : Message) where
 
   -- with the reply at the author's own name
   owns : (r : Reply) → Follows β (applied_record m.author) (applied_by m.author r) → KeptStage β m (own_stage m r)
-      → KeptWalk β m.author (turned m.author nothing m.author (later_targets m.author) r)
-      → InPlaces m.author (turned m.author nothing m.author (later_targets m.author) r)
+      → KeptWalk β m.author (turned m.author None m.author (later_targets m.author) r)
+      → InPlaces m.author (turned m.author None m.author (later_targets m.author) r)
       → KeptCursor β m (own_on β m r)
   unfolding own_stage own_on applied_by
   owns Reply.Error f k w i =
-      let gone : KeptReached β m.author (over nothing) = unfold turned reach_by in (reaching_claims β m.author).turns nothing m.author (later_targets m.author) Reply.Error w i in
-      let stores_error : failed ≡ stored_now β m.author = unfold progress_of stored_in in (reaching_claims β m.author).exactly (over nothing) gone in
-      applies _ stores_error (over nothing) gone not_known f k
-  owns Reply.NoRecord f k w i = applies_reached k (unfold applied_by in f) _ (unfold turned reach_by in (reaching_claims β m.author).turns nothing m.author (later_targets m.author) Reply.NoRecord w i)
+      let gone : KeptReached β m.author (over None) = unfold turned reach_by in (reaching_claims β m.author).turns None m.author (later_targets m.author) Reply.Error w i in
+      let stores_error : failed ≡ stored_now β m.author = unfold progress_of stored_in in (reaching_claims β m.author).exactly (over None) gone in
+      applies _ stores_error (over None) gone not_known f k
+  owns Reply.NoRecord f k w i = applies_reached k (unfold applied_by in f) _ (unfold turned reach_by in (reaching_claims β m.author).turns None m.author (later_targets m.author) Reply.NoRecord w i)
   owns (Reply.Record s) f k w i =
-      let gone = (reaching_claims β m.author).turns nothing m.author (later_targets m.author) (Reply.Record s) w i in
+      let gone = (reaching_claims β m.author).turns None m.author (later_targets m.author) (Reply.Record s) w i in
       applies _ ((reaching_claims β m.author).exactly _ gone) _ gone (own (found m.author s)) f k
 
   -- ---------------------------------------------------------------- from the beginning
 
-  whole_walk : KeptWalk β m.author (open_walk nothing (m.author ∷ later_targets m.author))
+  whole_walk : KeptWalk β m.author (open_walk None (m.author ∷ later_targets m.author))
   unfolding not_begun
-  whole_walk = subst (λ l. KeptWalk β m.author (open_walk nothing l)) (reaching_claims β m.author).starts (reaching_claims β m.author).begins.0
+  whole_walk = subst (λ l. KeptWalk β m.author (open_walk None l)) (reaching_claims β m.author).starts (reaching_claims β m.author).begins.0
 
-  whole_places : InPlaces m.author (open_walk nothing (m.author ∷ later_targets m.author))
+  whole_places : InPlaces m.author (open_walk None (m.author ∷ later_targets m.author))
   unfolding not_begun
-  whole_places = subst (λ l. InPlaces m.author (open_walk nothing l)) (reaching_claims β m.author).starts (reaching_claims β m.author).begins.1
+  whole_places = subst (λ l. InPlaces m.author (open_walk None l)) (reaching_claims β m.author).starts (reaching_claims β m.author).begins.1
 
-  whole_turned : (r : Reply) → InPlaces m.author (turned m.author nothing m.author (later_targets m.author) r)
-  whole_turned r = turned_places m.author nothing m.author (later_targets m.author) whole_places r
+  whole_turned : (r : Reply) → InPlaces m.author (turned m.author None m.author (later_targets m.author) r)
+  whole_turned r = turned_places m.author None m.author (later_targets m.author) whole_places r
 
-  own_name_now : can_ask m.author ≡ true → find β (asked_name m.author) ≡ nothing → still_open ≡ stored_now β m.author
+  own_name_now : can_ask m.author ≡ true → find β (asked_name m.author) ≡ None → still_open ≡ stored_now β m.author
   unfolding stored_now stored_by
   own_name_now a e = sym (ap (stored_by m.author) (waits_organization β m m.author _ (kept_asks β m.author whole_walk a e)))
 
   begins_known : can_ask m.author ≡ true → (o : Option Reply) → find β (asked_name m.author) ≡ o
-      → KeptCursor β m (elim o as (λ _. Cursor) [ nothing ↦ cursor still_open [] on_own_name | just r ↦ own_on β m r ])
+      → KeptCursor β m (elim o as (λ _. Cursor) [ None ↦ cursor still_open [] on_own_name | Some r ↦ own_on β m r ])
   unfolding stage_of PointWaits numbers_of
-  begins_known a nothing e = let now = own_name_now a e in record { stage = (stage_claims β m).begins; waits = (a, e); author = now; numbers = open_numbers now }
-  begins_known a (just r) e = owns r (applied_own β m a r e) ((stage_claims β m).own_known (stage_claims β m).begins a r e) (kept_known β m.author whole_walk a r e) (whole_turned r)
+  begins_known a None e = let now = own_name_now a e in record { stage = (stage_claims β m).begins; waits = (a, e); author = now; numbers = open_numbers now }
+  begins_known a (Some r) e = owns r (applied_own β m a r e) ((stage_claims β m).own_known (stage_claims β m).begins a r e) (kept_known β m.author whole_walk a r e) (whole_turned r)
 
   begins_by : (b : Bool) → can_ask m.author ≡ b
       → KeptCursor β m (elim b as (λ _. Cursor) [
-        | true ↦ elim (find β (asked_name m.author)) as (λ _. Cursor) [ nothing ↦ cursor still_open [] on_own_name | just r ↦ own_on β m r ]
+        | true ↦ elim (find β (asked_name m.author)) as (λ _. Cursor) [ None ↦ cursor still_open [] on_own_name | Some r ↦ own_on β m r ]
         | false ↦ own_on β m Reply.NoRecord
       ])
   begins_by true a = begins_known a (find β (asked_name m.author)) refl

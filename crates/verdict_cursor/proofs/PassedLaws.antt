@@ -2,14 +2,13 @@
 use mathlib.Core.Path.{◌≡◌, refl, ap, ap₂, sym, ◌∙◌}
 use mathlib.Core.List.{List, [], ◌∷◌, ◌++◌, map}
 use mathlib.Core.Bool.{Bool, true, false}
-use mathlib.Core.Option.{Option, none as nothing}
 use Prim.Native.Nat.{ℕ, zero, suc, ◌+◌, ◌-◌, ◌≤◌, ◌<◌}
 use native.Mathlib.Omega.{arith}
 use lib.Dec.{eqb}
 use lib.ListN.{length, get_or, set}
 use lib.Seq.{get_or-set_same, get_or-set_other}
 use borrow.Author.Tests.{eqb-true, eqb-false}
-use Rattle.std.specs.Prelude.{if◌then◌else◌}
+use Rattle.std.specs.Prelude.{if◌then◌else◌, Option, None}
 use Rattle.octets.specs.Octets.{Octets}
 use Rattle.lookup.specs.Lookup.{Answers}
 use Rattle.domain.specs.Domain.{Domain, targets}
@@ -158,16 +157,16 @@ module _ (β : Answers Reply) (m : Message) (d : Domain) (s : Settings) (p : App
   compare_passed e = rw (e, compare_on)
 
   compare_walked : is_walked (settled_alignment s m.author i) (stored_domain m.author st) ≡ true
-      → compare_on β m d s p st ws (i ∷ is) ≡ compare_reached β m d s p st ws i is (λ l. compare_on β m d s p st l is) (reach β i.domain nothing (targets i.domain))
+      → compare_on β m d s p st ws (i ∷ is) ≡ compare_reached β m d s p st ws i is (λ l. compare_on β m d s p st l is) (reach β i.domain None (targets i.domain))
   unfolding compare_on
   compare_walked e = rw (e, compare_on)
 
   module _ (e : is_walked (settled_alignment s m.author i) (stored_domain m.author st) ≡ true) where
-    pub compare_over : (w : Option Summary) → reach β i.domain nothing (targets i.domain) ≡ over w
+    pub compare_over : (w : Option Summary) → reach β i.domain None (targets i.domain) ≡ over w
         → compare_on β m d s p st ws (i ∷ is) ≡ compare_on β m d s p st (ws ++ ((i, stored_in i.domain (ended w)) ∷ [])) is
     unfolding compare_reached
     compare_over w f = compare_walked e ∙ ap (compare_reached β m d s p st ws i is (λ l. compare_on β m d s p st l is)) f
 
-    pub compare_pauses : (q : Pause) → reach β i.domain nothing (targets i.domain) ≡ pauses q → compare_on β m d s p st ws (i ∷ is) ≡ cursor st ws (on_identifier d s p i q is)
+    pub compare_pauses : (q : Pause) → reach β i.domain None (targets i.domain) ≡ pauses q → compare_on β m d s p st ws (i ∷ is) ≡ cursor st ws (on_identifier d s p i q is)
     unfolding compare_reached
     compare_pauses q f = compare_walked e ∙ ap (compare_reached β m d s p st ws i is (λ l. compare_on β m d s p st l is)) f

@@ -2,8 +2,7 @@
 use mathlib.Core.Path.{◌≡◌, refl, ap, sym, ◌∙◌, fun_ext}
 use mathlib.Core.List.{List, [], ◌∷◌, ◌++◌, append_assoc, append-nil}
 use mathlib.Core.Bool.{Bool, true, false}
-use mathlib.Core.Option.{Option, none as nothing, some as just, map, map-map}
-use Rattle.std.specs.Prelude.{if◌then◌else◌}
+use Rattle.std.specs.Prelude.{if◌then◌else◌, Some, None, Option, option_map}
 use Rattle.octets.specs.Octets.{any}
 use Rattle.lookup.specs.Lookup.{Name, Lookups, done, ask, ◌>>=◌, Answers, find, needs, run, run_over}
 use Rattle.lookup.proofs.RunLaws.{bind_bind, onward, run_bind, run_open}
@@ -11,7 +10,6 @@ use Rattle.lookup.specs.code.Following.{Follows}
 use Rattle.lookup.proofs.FollowLaws.{follows_self, follows_same, follows_on, follows_more, follows_run, follows_known, follows_bind}
 use Rattle.domain.specs.Domain.{Domain, can_ask, asked_name}
 use Rattle.policy.specs.declared.Settings.{Settings}
-use Rattle.force.specs.declared.InForce.{InForce}
 use Rattle.force.specs.InForce.{in_force}
 use Rattle.txt.specs.declared.Reply.{Reply}
 use Rattle.alignment.specs.declared.Alignment.{Alignment}
@@ -24,24 +22,25 @@ use Rattle.verdict.specs.Message.{Message}
 use Rattle.verdict.specs.Verdict.{Applied, own, other, not_known, no_record, other_or_none, applied_of_walk, applied_by, applied_record, policy_of, judge_by, judge, evaluate}
 use Rattle.verdict_cursor.specs.code.Stage.{other_in, applied_in, Stage, completing, comparing, concluded, left, KeptStage, in_force_stage, applied_stage, own_stage}
 use Rattle.verdict_cursor.specs.code.StageClaims.{organization_of_ended, StageClaims}
+use Rattle.octets.proofs.RefusingLaws.{option_map_map}
 
 -- ------------------------------------------------------------------ a walk, by its summary
 
-organization_summary : (d : Domain) → organizational_domain d ≡ (summarized d >>= λ s. done (map (λ o. o.organization) s))
+organization_summary : (d : Domain) → organizational_domain d ≡ (summarized d >>= λ s. done (option_map (λ o. o.organization) s))
 unfolding organizational_domain summarized summary ◌>>=◌
 organization_summary d =
-    ap (λ f. walk d >>= f) (fun_ext λ fs. ap done (sym (map-map (λ (s : Summary). s.organization) (summary d) fs))) ∙ sym (bind_bind (walk d) _ _)
+    ap (λ f. walk d >>= f) (fun_ext λ fs. ap done (sym (option_map_map (λ (s : Summary). s.organization) (summary d) fs))) ∙ sym (bind_bind (walk d) _ _)
 
 other_either : (f g : Option Found) → other_or_none f g ≡ other_in (or_found f g)
 unfolding other_or_none other_in or_found
-other_either (just f) g = refl
-other_either nothing (just g) = refl
-other_either nothing nothing = refl
+other_either (Some f) g = refl
+other_either None (Some g) = refl
+other_either None None = refl
 
-applied_same : (author : Domain) (w : Walked) → applied_of_walk author w ≡ applied_in (map (summary author) w)
+applied_same : (author : Domain) (w : Walked) → applied_of_walk author w ≡ applied_in (option_map (summary author) w)
 unfolding applied_of_walk applied_in summary
-applied_same author nothing = refl
-applied_same author (just fs) = other_either (found_at (organizational author fs) fs) (found_suffix fs)
+applied_same author None = refl
+applied_same author (Some fs) = other_either (found_at (organizational author fs) fs) (found_suffix fs)
 
 applied_summary : (author : Domain) → applied_by author Reply.NoRecord ≡ (summarized author >>= λ s. done (applied_in s))
 unfolding applied_by summarized ◌>>=◌
@@ -52,14 +51,14 @@ applied_summary author = ap (λ f. walk author >>= f) (fun_ext λ fs. ap done (a
 module _ (m : Message) where
   -- ---------------------------------------------------------------- a
 
-  stage_by : (b : Bool) (d : Domain) (s : InForce) → judge_by m b d s ≡ left m (in_force_stage m b d s)
+  stage_by : (b : Bool) (d : Domain) (s : Option Settings) → judge_by m b d s ≡ left m (in_force_stage m b d s)
   unfolding judge_by in_force_stage left alignments concluded ◌>>=◌
-  stage_by b d InForce.NotUsable = refl
-  stage_by b d (InForce.Usable s) =
+  stage_by b d None = refl
+  stage_by b d (Some s) =
       elim (any (must_walk s m.author) m.identifiers) as (λ t.
-      ((if t then (organizational_domain m.author >>= λ o. align_each s m.author o m.identifiers) else align_each s m.author nothing m.identifiers)
+      ((if t then (organizational_domain m.author >>= λ o. align_each s m.author o m.identifiers) else align_each s m.author None m.identifiers)
       >>= λ l. done (concluded m d (policy_of b m.existence s) l))
-      ≡ left m (if t then completing d s (policy_of b m.existence s) else comparing d s (policy_of b m.existence s) nothing [] m.identifiers)) [
+      ≡ left m (if t then completing d s (policy_of b m.existence s) else comparing d s (policy_of b m.existence s) None [] m.identifiers)) [
         | true ↦ bind_bind (organizational_domain m.author) _ _
         | false ↦ refl
       ]
@@ -116,18 +115,18 @@ module _ (β : Answers Reply) (m : Message) where
   waits_applied : (author : Domain) (n : Name) → run_over β (summarized author) ≡ needs n → run_over β (applied_by author Reply.NoRecord) ≡ needs n
   waits_applied author n e = ap (run_over β) (applied_summary author) ∙ waits (summarized author) _ n e
 
-  waits_compared : (s : Settings) (o : Domain) (i : Identifier) → settled_alignment s m.author i ≡ nothing → (n : Name) → run_over β (summarized i.domain) ≡ needs n
-      → run_over β (align s m.author (just o) i) ≡ needs n
+  waits_compared : (s : Settings) (o : Domain) (i : Identifier) → settled_alignment s m.author i ≡ None → (n : Name) → run_over β (summarized i.domain) ≡ needs n
+      → run_over β (align s m.author (Some o) i) ≡ needs n
   unfolding align align_by
   waits_compared s o i f n e = rw f (waits (organizational_domain i.domain) _ n (waits_organization i.domain n e))
 
-  compared_ended : (s : Settings) (o : Domain) (i : Identifier) (w : Option Summary) → settled_alignment s m.author i ≡ nothing → KeptWalk β i.domain (ended w)
-      → Follows β (align s m.author (just o) i) (done (compared o (organization_of_ended w)))
+  compared_ended : (s : Settings) (o : Domain) (i : Identifier) (w : Option Summary) → settled_alignment s m.author i ≡ None → KeptWalk β i.domain (ended w)
+      → Follows β (align s m.author (Some o) i) (done (compared o (organization_of_ended w)))
   unfolding align align_by ◌>>=◌
   compared_ended s o i w e f = rw e (follows_bind {f = λ x. done (compared o x)} {g = λ x. done (compared o x)} (organizes_ended i.domain w f) λ x. follows_self _)
 
   -- the applied record: by the reply at the author's own name, and by a walk that has ended
-  pub applied_own : can_ask m.author ≡ true → (r : Reply) → find β (asked_name m.author) ≡ just r → Follows β (applied_record m.author) (applied_by m.author r)
+  pub applied_own : can_ask m.author ≡ true → (r : Reply) → find β (asked_name m.author) ≡ Some r → Follows β (applied_record m.author) (applied_by m.author r)
   applied_own a r e = follows_on (follows_same (record_asked a)) (follows_known (asked_name m.author) (applied_by m.author) r e)
     where
       record_asked : can_ask m.author ≡ true → applied_record m.author ≡ ask (asked_name m.author) (applied_by m.author)
@@ -154,13 +153,13 @@ module _ (β : Answers Reply) (m : Message) where
         (follows_same (stage_of m (applied_in s))));
     completes = λ k {w} e. next_stage k (follows_bind (organizes_ended m.author w e) λ o. follows_self _);
     settles = λ {d} {s} {p} {o} {l} {i} {is} k a e. next_stage k (follows_on (follows_same (first_compared m d s p o l i is)) (follows_same (rw e)));
-    unknown = λ {d} {s} {p} {l} {i} {is} k e. next_stage k (follows_on (follows_same (first_compared m d s p nothing l i is)) (follows_same (rw e)));
+    unknown = λ {d} {s} {p} {l} {i} {is} k e. next_stage k (follows_on (follows_same (first_compared m d s p None l i is)) (follows_same (rw e)));
     compares = λ {d} {s} {p} {o} {l} {i} {is} k e {w} f.
-        next_stage k (follows_on (follows_same (first_compared m d s p (just o) l i is)) (follows_bind (compared_ended s o i w e f) λ a. follows_self (left m (comparing d s p (just o) (l ++ (a ∷ [])) is))));
+        next_stage k (follows_on (follows_same (first_compared m d s p (Some o) l i is)) (follows_bind (compared_ended s o i w e f) λ a. follows_self (left m (comparing d s p (Some o) (l ++ (a ∷ [])) is))));
     concludes = λ {d} {s} {p} {o} {l} k. next_stage k (follows_same (ap (λ x. done (concluded m d p x)) (append-nil l)));
     gives = λ k. follows_run k.follows;
     asks_own = λ a e. ap (run_over β) (own_asked m a) ∙ run_open (find β) (asked_name m.author) (λ r. applied_by m.author r >>= judge m) e;
     asks_applying = λ k n e. follows_run k.follows ∙ waits (applied_by m.author Reply.NoRecord) _ n (waits_applied m.author n e);
     asks_completing = λ k n e. follows_run k.follows ∙ waits (organizational_domain m.author) _ n (waits_organization m.author n e);
-    asks_comparing = λ {d} {s} {p} {o} {l} {i} {is} k f n e. follows_run k.follows ∙ ap (run_over β) (first_compared m d s p (just o) l i is) ∙ waits (align s m.author (just o) i) _ n (waits_compared s o i f n e);
+    asks_comparing = λ {d} {s} {p} {o} {l} {i} {is} k f n e. follows_run k.follows ∙ ap (run_over β) (first_compared m d s p (Some o) l i is) ∙ waits (align s m.author (Some o) i) _ n (waits_compared s o i f n e);
   }

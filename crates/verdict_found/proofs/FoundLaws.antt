@@ -2,15 +2,14 @@
 use mathlib.Core.Path.{◌≡◌, refl, ap, sym, ◌∙◌}
 use mathlib.Core.List.{List, [], ◌∷◌}
 use mathlib.Core.Bool.{Bool, true, false}
-use Prim.Native.Nat.{ℕ, ◌-◌}
+use Prim.Native.Nat.{ℕ}
 use denote.Enum.Declared.{tag_of}
 use types.Run.{OneOf, miss}
-use Rattle.std.specs.Prelude.{if◌then◌else◌}
+use Rattle.std.specs.Prelude.{if◌then◌else◌, Some, None, Option}
 use Rattle.octets.specs.Octets.{Octets, any}
 use Rattle.lookup.specs.Lookup.{Answers}
 use Rattle.domain.specs.declared.Octet.{Octet}
 use Rattle.policy.specs.declared.Settings.{Settings}
-use Rattle.force.specs.declared.InForce.{InForce}
 use Rattle.force.specs.InForce.{in_force}
 use Rattle.txt.specs.declared.Reply.{Reply}
 use Rattle.alignment.specs.Alignments.{must_walk}
@@ -45,7 +44,7 @@ either false x = refl
 
 module _ (domains : Octets) (numbers : List ℕ) (t : Terms) (β : Answers Reply) (before after : List ℕ) where
   -- a walk that is over, with what applies by it
-  abbrev applied_with : Organization → Applicable → Cursor
+  abbrev applied_with : Organization → Option Applicable → Cursor
   applied_with o a = apply β (stored_message domains numbers t) (author_stored domains numbers (author_reached domains numbers (Reach.Done o))) (author_reached domains numbers (Reach.Done o)) (other_in (found_in (slot domains numbers 0) a))
 
   module _ (p : Place) where
@@ -57,7 +56,7 @@ module _ (domains : Octets) (numbers : List ℕ) (t : Terms) (β : Answers Reply
     completes_over r (Reach.Done o) k e = e
 
     -- and it is completed already, whether or not any identifier must be walked
-    pub judges_usable : (begin : Octet) (s u : Settings) (o : Organization) (policy : AppliedPolicy) → in_force s ≡ InForce.Usable u → policy ≡ policy_of false t.existence u
+    pub judges_usable : (begin : Octet) (s u : Settings) (o : Organization) (policy : AppliedPolicy) → in_force s ≡ Some u → policy ≡ policy_of false t.existence u
         → ComparesAll domains numbers t β (record { begin = begin; settings = u; policy = policy }) (Reach.Done o) before after p → Judges domains numbers t β begin s o before after p
     unfolding judge_on complete_reached reached_in progress_of stored_message
     judges_usable begin s u o policy f g e =
@@ -65,16 +64,16 @@ module _ (domains : Octets) (numbers : List ℕ) (t : Terms) (β : Answers Reply
         rw (f, judge_on, ← g) (stands_same e (either (any (must_walk u m.author) m.identifiers) _))
 
     -- with its record
-    pub finds_record : (o : Organization) (begin : Octet) (s : Settings) → o.applicable ≡ Applicable.Record begin s → Judges domains numbers t β begin s o before after p → Finds domains numbers t β (Reach.Done o) before after p
+    pub finds_record : (o : Organization) (begin : Octet) (s : Settings) → o.applicable ≡ Some (record { begin = begin; settings = s }) → Judges domains numbers t β begin s o before after p → Finds domains numbers t β (Reach.Done o) before after p
     unfolding apply_reached apply applied_in other_in reached_in summary_in found_in progress_of stored_message
     finds_record o begin s f e = stands_same e (ap (applied_with o) (sym f))
 
-  pub judges_not_usable : (begin : Octet) (s : Settings) (o : Organization) → in_force s ≡ InForce.NotUsable → StoresAuthor domains numbers (Reach.Done o) before after → Judges domains numbers t β begin s o before after (Place.NotUsable begin)
+  pub judges_not_usable : (begin : Octet) (s : Settings) (o : Organization) → in_force s ≡ None → StoresAuthor domains numbers (Reach.Done o) before after → Judges domains numbers t β begin s o before after (Place.NotUsable begin)
   unfolding judge_on cursor_in unjudged_at stored_message
   judges_not_usable begin s o f e = record { place = rw (f, judge_on, e.number); only = λ z. only_author domains numbers t before after _ (Place.NotUsable begin) _ refl e z }
 
   -- or without
-  pub finds_none : (o : Organization) → o.applicable ≡ Applicable.Nothing → StoresAuthor domains numbers (Reach.Done o) before after → Finds domains numbers t β (Reach.Done o) before after Place.NoRecord
+  pub finds_none : (o : Organization) → o.applicable ≡ None → StoresAuthor domains numbers (Reach.Done o) before after → Finds domains numbers t β (Reach.Done o) before after Place.NoRecord
   unfolding apply_reached apply applied_in other_in reached_in summary_in found_in progress_of cursor_in unjudged_at stored_message
   finds_none o f e = record {
     place = ap (λ st. cursor st [] (at_verdict (unjudged (stored_message domains numbers t) [] Result.None (AppliedPolicy.Known Policy.None)))) e.number ∙ ap (applied_with o) (sym f);

@@ -6,11 +6,10 @@ ghost use Rattle.verdict_cursor.specs.code.Positions.{place_in};
 ghost use Rattle.verdict_found.specs.code.Found.{Completes, Judges, Finds};
 
 use domain::Octet;
-use force::InForce;
 use policy::Settings;
 use verdict_cursor::{Position, Ruling};
 use verdict_judgement::Terms;
-use walk_progress::{Applicable, Organization, Reach};
+use walk_progress::{Organization, Reach};
 
 // The author's walk, which must be completed, has come so far.
 pub fn complete<'a>(
@@ -45,18 +44,16 @@ fn judge<'a>(
 ) -> Position
     ensures { Judges domains.now numbers.now t (kept_answers domains.now count kept.now) begin settings o stored.old stored.new (place_in result) }
 {
-    let existence = t.existence;
     match force_policies::in_force(settings) {
-        InForce::NotUsable => {
+        None => {
             verdict_author::store(domains, numbers, Reach::Done(o), stored);
             verdict_place::not_usable(begin)
         }
-        InForce::Usable(used) => {
-            let policy = verdict_policies::find_policy(false, existence, used);
+        Some(used) => {
             let ruling = Ruling {
                 begin,
                 settings: used,
-                policy,
+                policy: verdict_policies::find_policy(false, t.existence, used),
             };
             verdict_author::compare_all(
                 domains,
@@ -93,11 +90,12 @@ pub fn found<'a>(
         Reach::Done(o) => {
             let applicable = o.applicable;
             match applicable {
-                Applicable::Nothing => {
+                None => {
                     verdict_author::store(domains, numbers, w, stored);
                     verdict_place::no_record()
                 }
-                Applicable::Record { begin, settings } => {
+                Some(record) => {
+                    let (begin, settings) = (record.begin, record.settings);
                     judge(domains, numbers, kept, count, t, begin, settings, o, stored)
                 }
             }

@@ -1,8 +1,8 @@
 -- What the proofs of the functions cite that go on from the reply at the author's own name.
+use Rattle.std.specs.Prelude.{Some, None, Option}
 use mathlib.Core.Path.{◌≡◌, refl, sym}
 use mathlib.Core.List.{List}
 use mathlib.Core.Bool.{true, false}
-use mathlib.Core.Option.{Option, none as nothing}
 use Prim.Native.Nat.{ℕ, ◌+◌}
 use native.Mathlib.Omega.{arith}
 use Rattle.octets.specs.Octets.{Octets, any}
@@ -11,14 +11,13 @@ use Rattle.domain.specs.Domain.{Domain, label_count}
 use Rattle.domain.proofs.DomainLaws.{last_all}
 use Rattle.domain_labels.specs.declared.Target.{Target}
 use Rattle.policy.specs.declared.Settings.{Settings}
-use Rattle.force.specs.declared.InForce.{InForce}
 use Rattle.force.specs.InForce.{in_force}
 use Rattle.txt.specs.declared.Reply.{Reply}
 use Rattle.alignment.specs.Alignments.{must_walk}
 use Rattle.walk.specs.Walk.{Found}
 use Rattle.walk_progress.specs.declared.Applicable.{Applicable}
 use Rattle.walk_progress.specs.declared.Reach.{Reach}
-use Rattle.walk_progress.specs.declared.Turned.{Turned}
+use Rattle.std.specs.declared.ops.ControlFlow.{ControlFlow}
 use Rattle.walk_progress.specs.code.Summary.{found_in}
 use Rattle.walk_progress.specs.code.Turns.{one_more}
 use Rattle.walk_progress.specs.code.Reaching.{Reached, reach_by, reach, later_targets}
@@ -41,7 +40,7 @@ abbrev pub whole : Target
 whole = record { begin = record { 0 = 0 }; wider = record { 0 = 0 } }
 
 -- the turn there: the domain has no label more
-turned_whole : (d : Domain) (r : Reply) (t : Turned) → Turns d whole Applicable.Nothing r t → (on : Option Found → Reached) → reach_by d nothing d (one_more d d) on r ≡ turned_in d on t
+turned_whole : (d : Domain) (r : Reply) (t : ControlFlow Reach (Option Applicable)) → Turns d whole None r t → (on : Option Found → Reached) → reach_by d None d (one_more d d) on r ≡ turned_in d on t
 unfolding one_more found_in
 turned_whole d r t e on = rw (last_all d (label_count d + 1) (omega arith)) (sym (e on))
 
@@ -65,16 +64,16 @@ module _ (domains : Octets) (numbers : List ℕ) (t : Terms) (β : Answers Reply
       unfolding judge_on stored_message
       judges_unwalked b g = rw (← b, ← e) g
 
-    pub owns_usable : (s u : Settings) (turned : Turned) (w : Reach) → in_force s ≡ InForce.Usable u → Turns author whole Applicable.Nothing (Reply.Record s) turned
+    pub owns_usable : (s u : Settings) (turned : ControlFlow Reach (Option Applicable)) (w : Reach) → in_force s ≡ Some u → Turns author whole None (Reply.Record s) turned
         → author_reached domains numbers w ≡ gone_in β author turned → JudgesOwn domains numbers t β u w before after p → Owns domains numbers t β (Reply.Record s) before after p
     unfolding own_on apply stored_message
     owns_usable s u turned w f k e g = rw (f, turned_whole author (Reply.Record s) turned k (λ l. reach β author l (later_targets author)), ← e) g
 
-    pub owns_none : (w : Reach) → author_reached domains numbers w ≡ reach β author nothing (later_targets author) → Finds domains numbers t β w before after p → Owns domains numbers t β Reply.NoRecord before after p
+    pub owns_none : (w : Reach) → author_reached domains numbers w ≡ reach β author None (later_targets author) → Finds domains numbers t β w before after p → Owns domains numbers t β Reply.NoRecord before after p
     unfolding own_on stored_message
     owns_none w e f = rw (← e) f
 
-  pub owns_not_usable : (s : Settings) (turned : Turned) (w : Reach) → in_force s ≡ InForce.NotUsable → Turns author whole Applicable.Nothing (Reply.Record s) turned
+  pub owns_not_usable : (s : Settings) (turned : ControlFlow Reach (Option Applicable)) (w : Reach) → in_force s ≡ None → Turns author whole None (Reply.Record s) turned
       → author_reached domains numbers w ≡ gone_in β author turned → StoresAuthor domains numbers w before after → Owns domains numbers t β (Reply.Record s) before after (Place.NotUsable (record { 0 = 0 }))
   unfolding own_on apply judge_on cursor_in unjudged_at stored_message
   owns_not_usable s turned w f k e g = record {

@@ -9,20 +9,20 @@ ghost use Rattle.verdict_own.specs.code.Own.{gone_in, JudgesOwn, Owns};
 
 use domain::Octet;
 use domain_labels::Target;
-use force::InForce;
 use policy::Settings;
+use std::ops::ControlFlow;
 use txt::Reply;
 use verdict_cursor::{Position, Ruling};
 use verdict_judgement::Terms;
-use walk_progress::{Applicable, Reach, Turned};
+use walk_progress::{Reach, Turned};
 
 // How far a walk goes over the answers kept, after the turn at its domain itself.
 fn gone<'a>(domains: &'a [u8], kept: &'a [u16], count: usize, d: &'a [u8], turned: Turned) -> Reach
     ensures { reached_in d.now result ≡ gone_in (kept_answers domains.now count kept.now) d.now turned }
 {
     match turned {
-        Turned::Over(w) => w,
-        Turned::On(last) => walk_reach::reach_on(domains, kept, count, d, last),
+        ControlFlow::Break(w) => w,
+        ControlFlow::Continue(last) => walk_reach::reach_on(domains, kept, count, d, last),
     }
 }
 
@@ -41,18 +41,16 @@ fn judge_own<'a>(
     ensures { JudgesOwn domains.now numbers.now t (kept_answers domains.now count kept.now) settings w stored.old stored.new (place_in result) }
 {
     let author = alignment_stored::slot(domains, numbers, 0);
-    let existence = t.existence;
-    let policy = verdict_policies::find_policy(true, existence, settings);
-    let begin = Octet(0);
     let ruling = Ruling {
-        begin,
+        begin: Octet(0),
         settings,
-        policy,
+        policy: verdict_policies::find_policy(true, t.existence, settings),
     };
     if alignment_settle::any_must_walk(domains, numbers, author, settings, t.identifiers) {
-        return verdict_found::complete(domains, numbers, kept, count, t, ruling, w, stored);
+        verdict_found::complete(domains, numbers, kept, count, t, ruling, w, stored)
+    } else {
+        verdict_author::compare_all(domains, numbers, kept, count, t, ruling, w, stored)
     }
-    verdict_author::compare_all(domains, numbers, kept, count, t, ruling, w, stored)
 }
 
 // The author's own record.
@@ -73,14 +71,14 @@ fn apply_own<'a>(
         begin,
         wider: begin,
     };
-    let turned = walk_turn::turn(author, at, Applicable::Nothing, Reply::Record(settings));
+    let turned = walk_turn::turn(author, at, None, Reply::Record(settings));
     let w = gone(domains, kept, count, author, turned);
     match force_policies::in_force(settings) {
-        InForce::NotUsable => {
+        None => {
             verdict_author::store(domains, numbers, w, stored);
             verdict_place::not_usable(begin)
         }
-        InForce::Usable(used) => { judge_own(domains, numbers, kept, count, t, used, w, stored) }
+        Some(used) => judge_own(domains, numbers, kept, count, t, used, w, stored),
     }
 }
 
@@ -103,10 +101,9 @@ pub fn own<'a>(
         }
         Reply::NoRecord => {
             let author = alignment_stored::slot(domains, numbers, 0);
-            let none = Applicable::Nothing;
-            let w = walk_reach::reach_on(domains, kept, count, author, none);
+            let w = walk_reach::reach_on(domains, kept, count, author, None);
             verdict_found::found(domains, numbers, kept, count, t, w, stored)
         }
-        Reply::Record(settings) => { apply_own(domains, numbers, kept, count, t, settings, stored) }
+        Reply::Record(settings) => apply_own(domains, numbers, kept, count, t, settings, stored),
     }
 }

@@ -10,7 +10,6 @@ ghost use Rattle.walk_progress.specs.code.Stops.{reached_in, stored_of};
 ghost use Rattle.verdict_cursor.specs.code.Cursor.{is_walked};
 ghost use Rattle.verdict_pass.specs.code.Passing.{passed_by, passed_within, passed_at, passed_in};
 
-use alignment_settle::Settled;
 use policy::Settings;
 use walk_progress::{Reach, Stop};
 
@@ -32,25 +31,17 @@ fn is_walked<'a>(
 ) -> bool
     ensures { result ≡ is_walked (settled_alignment s (slot domains.now numbers.now 0) (identifier_at domains.now numbers.now walk)) (stored_domain (slot domains.now numbers.now 0) (stored_of author)) }
 {
-    if author < 2 {
-        return false;
-    }
     let own = alignment_stored::slot(domains, numbers, 0);
-    match alignment_settle::settle_at(domains, numbers, own, s, walk) {
-        Settled::Known(_) => false,
-        Settled::Open => true,
-    }
+    2 <= author && alignment_settle::settle_at(domains, numbers, own, s, walk).is_none()
 }
 
 // An identifier whose walk has come so far.
 pub fn pass(d: &[u8], w: Reach) -> Passing
     ensures { passed_in d.now result ≡ passed_within (passed_by d.now (reached_in d.now w)) }
 {
-    let number = walk_turn::stored_number(d, w);
     match w {
         Reach::Stops(stop) => Passing::Stops(stop),
-        Reach::Failed => Passing::Passes(number),
-        Reach::Done(_) => Passing::Passes(number),
+        _ => Passing::Passes(walk_turn::stored_number(d, w)),
     }
 }
 
@@ -68,7 +59,8 @@ pub fn pass_at<'a>(
 {
     if is_walked(domains, numbers, s, author, walk) {
         let d = alignment_stored::slot(domains, numbers, walk);
-        return pass(d, walk_reach::reach(domains, kept, count, d));
+        pass(d, walk_reach::reach(domains, kept, count, d))
+    } else {
+        Passing::Passes(0)
     }
-    Passing::Passes(0)
 }

@@ -1,5 +1,5 @@
 // Each place as plain fields, and such a place read.
-#![tactic(auto)]
+#![tactic(auto, unfolding(verdict_cursor::specs::code::Positions::policy_in, verdict_cursor::specs::code::Positions::ruling_in, verdict_cursor::specs::code::Positions::place_by, verdict_cursor::specs::code::Positions::place_in))]
 
 ghost use Rattle.std.specs.Prelude.{◌≡◌};
 ghost use Rattle.walk_stop.specs.code.KeptStops.{stop_in};
@@ -16,11 +16,9 @@ fn keep_policy(p: AppliedPolicy) -> usize
     ensures { policy_in result ≡ p }
 {
     match p {
-        AppliedPolicy::Known(known) => match known {
-            Policy::None => 0,
-            Policy::Quarantine => 1,
-            Policy::Reject => 2,
-        },
+        AppliedPolicy::Known(Policy::None) => 0,
+        AppliedPolicy::Known(Policy::Quarantine) => 1,
+        AppliedPolicy::Known(Policy::Reject) => 2,
         AppliedPolicy::Unknown => 3,
     }
 }
@@ -41,13 +39,10 @@ fn read_policy(n: usize) -> AppliedPolicy
 fn keep_ruling(r: Ruling) -> KeptRuling
     ensures { ruling_in result ≡ r }
 {
-    let begin = r.begin;
-    let set = r.settings;
-    let applied = r.policy;
     KeptRuling {
-        begin,
-        settings: txt_codes::encode_settings(set),
-        policy: keep_policy(applied),
+        begin: r.begin,
+        settings: txt_codes::encode_settings(r.settings),
+        policy: keep_policy(r.policy),
     }
 }
 
@@ -55,18 +50,17 @@ fn keep_ruling(r: Ruling) -> KeptRuling
 fn read_ruling(k: KeptRuling) -> Ruling
     ensures { result ≡ ruling_in k }
 {
-    let begin = k.begin;
-    let settings = txt_codes::decode_settings(k.settings);
-    let policy = read_policy(k.policy);
     Ruling {
-        begin,
-        settings,
-        policy,
+        begin: k.begin,
+        settings: txt_codes::decode_settings(k.settings),
+        policy: read_policy(k.policy),
     }
 }
 
 // No applied record.
-fn no_ruling() -> KeptRuling {
+fn no_ruling() -> KeptRuling
+    ensures { result ≡ record { begin = record { 0 = 0 }; settings = 0; policy = 0 } }
+{
     KeptRuling {
         begin: Octet(0),
         settings: 0,
@@ -78,12 +72,11 @@ fn no_ruling() -> KeptRuling {
 fn at(kind: PlaceKind, ruling: KeptRuling) -> Position
     ensures { (result.kind ≡ kind) × (result.ruling ≡ ruling) }
 {
-    let stop = walk_stop::no_stop();
     Position {
         kind,
         ruling,
         walk: 0,
-        stop,
+        stop: walk_stop::no_stop(),
     }
 }
 
@@ -91,12 +84,11 @@ fn at(kind: PlaceKind, ruling: KeptRuling) -> Position
 fn on(kind: PlaceKind, ruling: KeptRuling, walk: usize, s: Stop) -> Position
     ensures { (result.kind ≡ kind) × (result.ruling ≡ ruling) × (result.walk ≡ walk) × (stop_in result.stop ≡ s) }
 {
-    let stop = walk_stop::keep_stop(s);
     Position {
         kind,
         ruling,
         walk,
-        stop,
+        stop: walk_stop::keep_stop(s),
     }
 }
 
@@ -146,12 +138,13 @@ pub fn no_record() -> Position
 pub fn not_usable(begin: Octet) -> Position
     ensures { place_in result ≡ Place.NotUsable begin }
 {
-    let ruling = KeptRuling {
-        begin,
-        settings: 0,
-        policy: 0,
-    };
-    at(PlaceKind::NotUsable, ruling)
+    at(
+        PlaceKind::NotUsable,
+        KeptRuling {
+            begin,
+            ..no_ruling()
+        },
+    )
 }
 
 // At the verdict, by the alignments.
@@ -165,27 +158,21 @@ pub fn judged(ruling: Ruling) -> Position
 pub fn read(q: Position) -> Place
     ensures { result ≡ place_in q }
 {
-    let kept = q.ruling;
-    let stop = q.stop;
-    let kind = q.kind;
-    match kind {
+    match q.kind {
         PlaceKind::OwnName => Place::OwnName,
-        PlaceKind::Author => Place::Author(walk_stop::read_stop(stop)),
+        PlaceKind::Author => Place::Author(walk_stop::read_stop(q.stop)),
         PlaceKind::Completing => Place::Completing {
-            ruling: read_ruling(kept),
-            stop: walk_stop::read_stop(stop),
+            ruling: read_ruling(q.ruling),
+            stop: walk_stop::read_stop(q.stop),
         },
         PlaceKind::Identifier => Place::Identifier {
-            ruling: read_ruling(kept),
+            ruling: read_ruling(q.ruling),
             walk: q.walk,
-            stop: walk_stop::read_stop(stop),
+            stop: walk_stop::read_stop(q.stop),
         },
         PlaceKind::NotKnown => Place::NotKnown,
         PlaceKind::NoRecord => Place::NoRecord,
-        PlaceKind::NotUsable => {
-            let begin = kept.begin;
-            Place::NotUsable(begin)
-        }
-        PlaceKind::Judged => Place::Judged(read_ruling(kept)),
+        PlaceKind::NotUsable => Place::NotUsable(q.ruling.begin),
+        PlaceKind::Judged => Place::Judged(read_ruling(q.ruling)),
     }
 }

@@ -1,31 +1,11 @@
 // The policy and the disposition.
-#![tactic(auto)]
+#![tactic(auto, unfolding(verdict::specs::Verdict::same_policy, verdict::specs::Verdict::policy_by_existence, verdict::specs::Verdict::policy_before_step, verdict::specs::Verdict::one_step_down, verdict::specs::Verdict::policy_of, verdict::specs::Verdict::result_with, verdict::specs::Verdict::failing_disposition, verdict::specs::Verdict::disposition_of))]
 
 ghost use Rattle.std.specs.Prelude.{◌≡◌};
-ghost use Rattle.verdict.specs.Verdict.{same_policy, policy_by_existence, policy_before_step, one_step_down, policy_of, result_with, failing_disposition, disposition_of};
+ghost use Rattle.verdict.specs.Verdict.{policy_by_existence, policy_before_step, one_step_down, policy_of, result_with, failing_disposition, disposition_of};
 
 use policy::{Policy, Settings};
 use verdict::{AppliedPolicy, Disposition, Existence, Result};
-
-// Whether two policies are the same.
-fn same_policy(a: Policy, b: Policy) -> bool
-    ensures { result ≡ same_policy a b }
-{
-    match a {
-        Policy::None => match b {
-            Policy::None => true,
-            _ => false,
-        },
-        Policy::Quarantine => match b {
-            Policy::Quarantine => true,
-            _ => false,
-        },
-        Policy::Reject => match b {
-            Policy::Reject => true,
-            _ => false,
-        },
-    }
-}
 
 // The policy of a record that is not the author's own.
 fn policy_by_existence(e: Existence, s: Settings) -> AppliedPolicy
@@ -36,12 +16,8 @@ fn policy_by_existence(e: Existence, s: Settings) -> AppliedPolicy
     match e {
         Existence::Exists => AppliedPolicy::Known(existing),
         Existence::Missing => AppliedPolicy::Known(missing),
-        Existence::Unknown => {
-            if same_policy(existing, missing) {
-                return AppliedPolicy::Known(existing);
-            }
-            AppliedPolicy::Unknown
-        }
+        Existence::Unknown if existing == missing => AppliedPolicy::Known(existing),
+        Existence::Unknown => AppliedPolicy::Unknown,
     }
 }
 
@@ -60,9 +36,10 @@ fn full_policy(own: bool, e: Existence, s: Settings) -> AppliedPolicy
     ensures { result ≡ policy_before_step own e s }
 {
     if own {
-        return AppliedPolicy::Known(force_policies::own_policy(s));
+        AppliedPolicy::Known(force_policies::own_policy(s))
+    } else {
+        policy_by_existence(e, s)
     }
-    policy_by_existence(e, s)
 }
 
 // The policy.
@@ -70,22 +47,16 @@ pub fn find_policy(own: bool, e: Existence, s: Settings) -> AppliedPolicy
     ensures { result ≡ policy_of own e s }
 {
     let full = full_policy(own, e, s);
-    if s.t {
-        return lower_policy(full);
-    }
-    full
+    if s.t { lower_policy(full) } else { full }
 }
 
 // A result with a policy that may be unknown.
 pub fn with_policy(p: AppliedPolicy, r: Result) -> Result
     ensures { result ≡ result_with p r }
 {
-    let AppliedPolicy::Unknown = p else {
-        return r;
-    };
     match r {
-        Result::Fail => Result::Temperror,
-        other => other,
+        Result::Fail if matches!(p, AppliedPolicy::Unknown) => Result::Temperror,
+        _ => r,
     }
 }
 
@@ -93,16 +64,11 @@ pub fn with_policy(p: AppliedPolicy, r: Result) -> Result
 fn dispose_failing(support: bool, p: AppliedPolicy) -> Disposition
     ensures { result ≡ failing_disposition support p }
 {
-    let AppliedPolicy::Known(known) = p else {
-        return Disposition::Defer;
-    };
-    let Policy::Reject = known else {
-        return Disposition::Apply(known);
-    };
-    if support {
-        return Disposition::Apply(Policy::Reject);
+    match p {
+        AppliedPolicy::Known(Policy::Reject) if !support => Disposition::Apply(Policy::Quarantine),
+        AppliedPolicy::Known(known) => Disposition::Apply(known),
+        AppliedPolicy::Unknown => Disposition::Defer,
     }
-    Disposition::Apply(Policy::Quarantine)
 }
 
 // What is done with a message.

@@ -1,7 +1,7 @@
 -- Laws of alignments by what is stored, and of tallies.
+use Rattle.std.specs.Prelude.{None, Some}
 use mathlib.Core.Path.{◌≡◌, refl}
 use mathlib.Core.List.{List, map}
-use mathlib.Core.Option.{none as nothing, some as just}
 use Prim.Native.Nat.{ℕ, zero, suc, ◌+◌, ◌*◌, ◌-◌, ◌≤◌, ◌<◌, min}
 use native.Mathlib.Decide.{dec_le}
 use native.Mathlib.Omega.{arith}
@@ -23,28 +23,28 @@ use Rattle.verdict_cursor.specs.code.Standing.{stored_at, passed_from}
 -- ------------------------------------------------------------------ the number stored of a walk
 
 -- of a walk that is open or had an error
-domain_unknown : (d : Domain) (n : ℕ) → n < 2 → stored_domain d (stored_of n) ≡ nothing
+domain_unknown : (d : Domain) (n : ℕ) → n < 2 → stored_domain d (stored_of n) ≡ None
 unfolding stored_domain stored_of
 domain_unknown d zero h = refl
 domain_unknown d (suc zero) h = refl
 domain_unknown d (suc (suc n)) h = absurd (omega arith)
 
 -- of one that ended
-domain_known : (d : Domain) (n : ℕ) → 2 ≤ n → stored_domain d (stored_of n) ≡ just (drop (n - 2) d)
+domain_known : (d : Domain) (n : ℕ) → 2 ≤ n → stored_domain d (stored_of n) ≡ Some (drop (n - 2) d)
 unfolding stored_domain stored_of
 domain_known d n h = rw (ne_eqb n 0 (λ e. omega arith), ne_eqb n 1 (λ e. omega arith))
 
 -- the author's, and an identifier's own
 module _ (author d : Domain) (first own : ℕ) where
-  pub read_unknown : min first own < 2 → read_by nothing (stored_domain author (stored_of first)) (stored_domain d (stored_of own)) ≡ Alignment.Unknown
+  pub read_unknown : min first own < 2 → read_by None (stored_domain author (stored_of first)) (stored_domain d (stored_of own)) ≡ Alignment.Unknown
   unfolding read_by compared
   read_unknown h = go (dec_le 2 first)
     where
-      go : Dec (2 ≤ first) → read_by nothing (stored_domain author (stored_of first)) (stored_domain d (stored_of own)) ≡ Alignment.Unknown
+      go : Dec (2 ≤ first) → read_by None (stored_domain author (stored_of first)) (stored_domain d (stored_of own)) ≡ Alignment.Unknown
       go (yes k) = rw (domain_known author first k, domain_unknown d own (omega arith))
       go (no k) = rw (domain_unknown author first (omega arith))
 
-  pub read_known : 2 ≤ min first own → read_by nothing (stored_domain author (stored_of first)) (stored_domain d (stored_of own)) ≡ compared (drop (first - 2) author) (just (drop (own - 2) d))
+  pub read_known : 2 ≤ min first own → read_by None (stored_domain author (stored_of first)) (stored_domain d (stored_of own)) ≡ compared (drop (first - 2) author) (Some (drop (own - 2) d))
   unfolding read_by
   read_known h = rw (domain_known author first (omega arith), domain_known d own (omega arith))
 

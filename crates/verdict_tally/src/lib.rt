@@ -1,18 +1,16 @@
 // The alignment of each identifier by what is stored, as digits, and what holds of any.
-#![tactic(auto)]
+#![tactic(auto, unfolding(alignment::specs::Alignments::is_aligned, alignment::specs::Alignments::is_unknown, alignment::specs::Alignments::is_temporary, alignment_settle::specs::code::Tallies::alignment_code, alignment_settle::specs::code::Tallies::tally_with))]
 
-ghost use Rattle.std.specs.Prelude.{◌≡◌, map, ◌||◌, ◌<◌, get_or};
-ghost use Rattle.std.proofs.Math.Option.{none};
+ghost use Rattle.std.specs.Prelude.{◌≡◌, map, ◌<◌, get_or};
 ghost use Rattle.walk_progress.specs.code.Stored.{stored_domain};
 ghost use Rattle.walk_progress.specs.code.Stops.{stored_of};
-ghost use Rattle.alignment.specs.Alignments.{is_aligned, is_unknown, is_temporary};
 ghost use Rattle.alignment_stored.specs.code.Stored.{slot, identifier_at};
 ghost use Rattle.alignment_settle.specs.code.Tallies.{alignment_code, tally_with, tally_of};
 ghost use Rattle.verdict_cursor.specs.code.Cursor.{read_by, read_alignment};
 ghost use Rattle.verdict_cursor.specs.code.Standing.{stored_at, passed_from, given_count};
 
 use alignment::{Alignment, Outcome};
-use alignment_settle::{Settled, Tally};
+use alignment_settle::Tally;
 use policy::Settings;
 use verdict_judgement::Terms;
 
@@ -20,24 +18,22 @@ use verdict_judgement::Terms;
 fn number_of(stored: &[u16], walk: usize) -> usize
     ensures { result ≡ get_or stored.now walk 0 }
 {
-    if stored.len() <= walk {
-        return 0;
-    }
-    stored[walk] as usize
+    usize::from(stored.get(walk).copied().unwrap_or(0))
 }
 
 // The alignment of an identifier that must be walked, by the numbers stored of the author's walk and of its own.
 fn compare<'a>(author: &'a [u8], first: usize, d: &'a [u8], own: usize) -> Alignment
-    ensures { result ≡ read_by none (stored_domain author.now (stored_of first)) (stored_domain d.now (stored_of own)) }
+    ensures { result ≡ read_by None (stored_domain author.now (stored_of first)) (stored_domain d.now (stored_of own)) }
 {
-    if text_parts::smaller(first, own) < 2 {
+    if first.min(own) < 2 {
         return Alignment::Unknown;
     }
     let organization = text_parts::skip(author, first - 2);
     if text_parts::same_octets(text_parts::skip(d, own - 2), organization) {
-        return Alignment::Aligned;
+        Alignment::Aligned
+    } else {
+        Alignment::NotAligned
     }
-    Alignment::NotAligned
 }
 
 // The alignment of a walk's identifier, by what is stored.
@@ -52,8 +48,8 @@ fn align_at<'a>(
 {
     let author = alignment_stored::slot(domains, numbers, 0);
     match alignment_settle::settle_at(domains, numbers, author, s, walk) {
-        Settled::Known(a) => a,
-        Settled::Open => {
+        Some(a) => a,
+        None => {
             let first = number_of(stored, 0);
             let d = alignment_stored::slot(domains, numbers, walk);
             compare(author, first, d, number_of(stored, walk))
@@ -73,41 +69,6 @@ fn encode_alignment(a: Alignment) -> usize
     }
 }
 
-// Whether one is aligned, or another was.
-fn is_aligned(a: Alignment, other: bool) -> bool
-    ensures { result ≡ (is_aligned a || other) }
-{
-    match a {
-        Alignment::Aligned => true,
-        Alignment::NotJudged => other,
-        Alignment::NotAligned => other,
-        Alignment::Unknown => other,
-    }
-}
-
-// Whether one is unknown, or another was.
-fn is_unknown(a: Alignment, other: bool) -> bool
-    ensures { result ≡ (is_unknown a || other) }
-{
-    match a {
-        Alignment::Unknown => true,
-        Alignment::NotJudged => other,
-        Alignment::Aligned => other,
-        Alignment::NotAligned => other,
-    }
-}
-
-// Whether an outcome is a temporary error, or another was.
-fn is_temporary(o: Outcome, other: bool) -> bool
-    ensures { result ≡ (is_temporary o || other) }
-{
-    match o {
-        Outcome::TemporaryError => true,
-        Outcome::NotPassing => other,
-        Outcome::Pass => other,
-    }
-}
-
 // A tally with one identifier more in front.
 fn tally_with(o: Outcome, a: Alignment, t: Tally) -> Tally
     requires { t.digits < 4294967296 }
@@ -115,9 +76,9 @@ fn tally_with(o: Outcome, a: Alignment, t: Tally) -> Tally
 {
     Tally {
         digits: encode_alignment(a) + 4 * t.digits,
-        aligned: is_aligned(a, t.aligned),
-        unknown: is_unknown(a, t.unknown),
-        temporary: is_temporary(o, t.temporary),
+        aligned: matches!(a, Alignment::Aligned) || t.aligned,
+        unknown: matches!(a, Alignment::Unknown) || t.unknown,
+        temporary: matches!(o, Outcome::TemporaryError) || t.temporary,
     }
 }
 
@@ -137,12 +98,9 @@ pub fn tally<'a>(
         unknown: false,
         temporary: false,
     };
-    let mut walk = text_parts::smaller(t.identifiers, 16);
-    while 0 < walk {
+    for walk in (1..=t.identifiers.min(16)).rev() {
         let a = align_at(domains, numbers, stored, s, walk);
-        let with_one = tally_with(alignment_stored::outcome_at(numbers, walk), a, all);
-        all = with_one;
-        walk = walk - 1;
+        all = tally_with(alignment_stored::outcome_at(numbers, walk), a, all);
     }
     all
 }

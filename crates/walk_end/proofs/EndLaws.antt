@@ -1,7 +1,7 @@
 -- Laws of the end of a walk, by the places of its domains in the start.
+use Rattle.std.specs.Prelude.{Option, Some}
 use mathlib.Core.Path.{◌≡◌, refl, ap, sym, ◌∙◌}
 use mathlib.Core.Bool.{Bool, true, false}
-use mathlib.Core.Option.{Option, some as just}
 use Prim.Native.Nat.{ℕ, min}
 use native.Mathlib.Omega.{arith}
 use lib.Dec.{eqb}
@@ -32,12 +32,12 @@ same_ends d a b x y e f = go (eqb x y) refl
 
 module _ (d : Domain) (at wider : ℕ) (last : Option Found) (s : Settings) (t : Bool) (e : t ≡ same (drop at d) d) where
   -- at the start
-  pub suffix_at_start : t ≡ true → last_summary d (just (found (drop at d) s)) ≡ wider_summary d last (found (drop at d) s) (drop wider d)
+  pub suffix_at_start : t ≡ true → last_summary d (Some (found (drop at d) s)) ≡ wider_summary d last (found (drop at d) s) (drop wider d)
   unfolding wider_summary
   suffix_at_start g = rw (← e, g)
 
   -- and elsewhere
-  pub suffix_above : t ≡ false → (chosen : Option Found) → chosen ≡ or_found (if_at (drop wider d) last) (just (found (drop at d) s))
+  pub suffix_above : t ≡ false → (chosen : Option Found) → chosen ≡ or_found (if_at (drop wider d) last) (Some (found (drop at d) s))
       → record { organization = drop wider d; applicable = chosen } ≡ wider_summary d last (found (drop at d) s) (drop wider d)
   unfolding wider_summary
   suffix_above g chosen h = rw (← e, g, h)

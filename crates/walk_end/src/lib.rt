@@ -2,7 +2,6 @@
 #![tactic(auto)]
 
 ghost use Rattle.std.specs.Prelude.{◌≡◌, drop};
-ghost use Rattle.std.proofs.Math.Option.{some};
 ghost use Rattle.octets.specs.Octets.{same};
 ghost use Rattle.domain.specs.Domain.{Domain};
 ghost use Rattle.walk.specs.Walk.{found};
@@ -24,46 +23,43 @@ fn same_end(d: &[u8], a: Octet, b: Octet) -> bool
 }
 
 // The end of a walk whose last record is this one.
-pub fn end_at(last: Applicable) -> Reach
-    ensures { (d : Domain) → reached_in d result ≡ over (some (last_summary d (found_in d last))) }
+pub fn end_at(last: Option<Applicable>) -> Reach
+    ensures { (d : Domain) → reached_in d result ≡ over (Some (last_summary d (found_in d last))) }
 {
-    match last {
-        Applicable::Nothing => Reach::Done(Organization {
-            begin: Octet(0),
-            applicable: last,
-        }),
-        Applicable::Record { begin, settings: _ } => Reach::Done(Organization {
-            begin,
-            applicable: last,
-        }),
-    }
+    let begin = match last {
+        Some(record) => record.begin,
+        None => Octet(0),
+    };
+    Reach::Done(Organization {
+        begin,
+        applicable: last,
+    })
 }
 
 // The last record found, if it is at a place, else another.
-fn choose(d: &[u8], at: Octet, last: Applicable, other: Applicable) -> Applicable
-    ensures { found_in d.now result ≡ or_found (if_at (drop at.0 d.now) (found_in d.now last)) (found_in d.now other) }
+fn choose(d: &[u8], at: Octet, last: Option<Applicable>, other: Applicable) -> Applicable
+    ensures { found_in d.now (Some result) ≡ or_found (if_at (drop at.0 d.now) (found_in d.now last)) (found_in d.now (Some other)) }
 {
-    let Applicable::Record { begin, settings: _ } = last else {
-        return other;
-    };
-    if same_end(d, begin, at) {
-        return last;
+    match last {
+        Some(record) if same_end(d, record.begin, at) => record,
+        _ => other,
     }
-    other
 }
 
 // The end of a walk at a psd=y record.
-pub fn end_suffix(d: &[u8], at: Target, last: Applicable, settings: Settings) -> Reach
-    ensures { reached_in d.now result ≡ over (some (wider_summary d.now (found_in d.now last) (found (drop at.begin.0 d.now) settings) (drop at.wider.0 d.now))) }
+pub fn end_suffix(d: &[u8], at: Target, last: Option<Applicable>, settings: Settings) -> Reach
+    ensures { reached_in d.now result ≡ over (Some (wider_summary d.now (found_in d.now last) (found (drop at.begin.0 d.now) settings) (drop at.wider.0 d.now))) }
 {
-    let begin = at.begin;
-    let record = Applicable::Record { begin, settings };
-    if same_end(d, begin, Octet(0)) {
-        return end_at(record);
+    let record = Applicable {
+        begin: at.begin,
+        settings,
+    };
+    if same_end(d, at.begin, Octet(0)) {
+        end_at(Some(record))
+    } else {
+        Reach::Done(Organization {
+            begin: at.wider,
+            applicable: Some(choose(d, at.wider, last, record)),
+        })
     }
-    let wider = at.wider;
-    Reach::Done(Organization {
-        begin: wider,
-        applicable: choose(d, wider, last, record),
-    })
 }

@@ -11,10 +11,7 @@ use txt::Reply;
 fn slot_begin(walk: usize) -> usize
     ensures { result ≡ begin_of_slot walk }
 {
-    if 16 < walk {
-        return 0;
-    }
-    253 * walk
+    if walk <= 16 { 253 * walk } else { 0 }
 }
 
 // Three numbers, from a place on.
@@ -44,7 +41,7 @@ pub fn keep_reply<'a>(
     }
     let size = alignment_stored::slot(domains, numbers, walk).len();
     let begin = slot_begin(walk);
-    let from = begin + text_parts::smaller(place.0, size);
+    let from = begin + place.0.min(size);
     let code = txt_codes::encode(r);
     let end = begin + size;
     put(kept, 3 * count, from as u16, end as u16, code as u16);

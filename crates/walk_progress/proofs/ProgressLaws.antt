@@ -2,12 +2,10 @@
 use mathlib.Core.Path.{◌≡◌, refl, ap, sym, ◌∙◌}
 use mathlib.Core.List.{List, [], ◌∷◌, ◌++◌, map}
 use mathlib.Core.Bool.{true, false}
-use mathlib.Core.Option
-use mathlib.Core.Option.{Option, none as nothing, some as just}
 use Prim.Native.Nat.{ℕ, ◌+◌, ◌-◌}
 use lib.Dec.{ltb}
 use lib.ListN.{drop}
-use Rattle.std.specs.Prelude.{if◌then◌else◌}
+use Rattle.std.specs.Prelude.{if◌then◌else◌, option_map, Option, None, Some}
 use Rattle.octets.specs.Octets.{same}
 use Rattle.lookup.specs.Lookup.{ask, ◌>>=◌, Answers, find, needs, has, run, run_over}
 use Rattle.lookup.proofs.RunLaws.{onward}
@@ -55,7 +53,7 @@ module _ (β : Answers Reply) (d : Domain) where
 
   module _ {last : Option Found} {t : Domain} {ts : List Domain} (k : KeptWalk β d (open_walk last (t ∷ ts))) where
     -- at a target that was answered before, for this walk or for another
-    pub kept_known : can_ask t ≡ true → (r : Reply) → find β (asked_name t) ≡ just r → KeptWalk β d (turned d last t ts r)
+    pub kept_known : can_ask t ≡ true → (r : Reply) → find β (asked_name t) ≡ Some r → KeptWalk β d (turned d last t ts r)
     kept_known a r e = record { follows = follows_on k.follows (follows_on (follows_same (next_asked d last t ts a)) (follows_on (follows_known (asked_name t) _ r e) (follows_same (turned_left d last t ts r)))) }
 
     -- at one that is too long to ask
@@ -63,21 +61,21 @@ module _ (β : Answers Reply) (d : Domain) where
     kept_skipped a = record { follows = follows_on k.follows (follows_same (next_skipped d last t ts a ∙ turned_left d last t ts Reply.NoRecord)) }
 
     -- at one that was not answered: its name is the one needed, and its answer is one turn
-    pub kept_asks : can_ask t ≡ true → find β (asked_name t) ≡ nothing → run_over β (summarized d) ≡ needs (asked_name t)
+    pub kept_asks : can_ask t ≡ true → find β (asked_name t) ≡ None → run_over β (summarized d) ≡ needs (asked_name t)
     kept_asks a e = follows_needs (follows_on k.follows (follows_same (next_asked d last t ts a))) e
 
-    pub kept_answered : can_ask t ≡ true → find β (asked_name t) ≡ nothing → (r : Reply) → KeptWalk (β ++ ((asked_name t, r) ∷ [])) d (turned d last t ts r)
+    pub kept_answered : can_ask t ≡ true → find β (asked_name t) ≡ None → (r : Reply) → KeptWalk (β ++ ((asked_name t, r) ∷ [])) d (turned d last t ts r)
     kept_answered a e r = record { follows = follows_on (follows_new (follows_on k.follows (follows_same (next_asked d last t ts a))) e r) (follows_same (turned_left d last t ts r)) }
 
   -- after the last target
-  pub kept_ends : {last : Option Found} → KeptWalk β d (open_walk last []) → KeptWalk β d (ended (just (last_summary d last)))
+  pub kept_ends : {last : Option Found} → KeptWalk β d (open_walk last []) → KeptWalk β d (ended (Some (last_summary d last)))
   unfolding left_of summarized_from
   kept_ends k = record { follows = k.follows }
 
   -- what the walk came to is what is worked out afresh, after every later answer
-  pub kept_organization : {s : Option Summary} → KeptWalk β d (ended s) → (γ : Answers Reply) → run_over (β ++ γ) (organizational_domain d) ≡ has (Option.map (λ o. o.organization) s)
+  pub kept_organization : {s : Option Summary} → KeptWalk β d (ended s) → (γ : Answers Reply) → run_over (β ++ γ) (organizational_domain d) ≡ has (option_map (λ o. o.organization) s)
   unfolding left_of run_over run onward
-  kept_organization k γ = organization_run (find (β ++ γ)) d ∙ ap (λ u. onward u (λ o. has (Option.map (λ s. s.organization) o))) (k.follows.runs γ)
+  kept_organization k γ = organization_run (find (β ++ γ)) d ∙ ap (λ u. onward u (λ o. has (option_map (λ s. s.organization) o))) (k.follows.runs γ)
 
 -- ------------------------------------------------------------------ places
 
@@ -97,12 +95,12 @@ module _ (d : Domain) where
 
   pub last_in_places : (last : Option Found) → LastIsEnd d last → IsEnd d (last_summary d last).organization
   unfolding LastIsEnd last_summary
-  last_in_places nothing e = whole_end
-  last_in_places (just f) e = e
+  last_in_places None e = whole_end
+  last_in_places (Some f) e = e
 
   suffix_in_places : (last : Option Found) (f : Found) → IsEnd d f.domain → IsEnd d (suffix_summary d last f).organization
   unfolding suffix_summary wider_summary last_summary one_more
-  suffix_in_places last f e = elim (same f.domain d) as (λ b. IsEnd d (if b then last_summary d (just f) else record { organization = one_more d f.domain; applicable = or_found (if_at (one_more d f.domain) last) (just f) }).organization) [
+  suffix_in_places last f e = elim (same f.domain d) as (λ b. IsEnd d (if b then last_summary d (Some f) else record { organization = one_more d f.domain; applicable = or_found (if_at (one_more d f.domain) last) (Some f) }).organization) [
     | true ↦ e
     | false ↦ unfold IsEnd in last_labels_end (label_count f.domain + 1) d
   ]
@@ -111,7 +109,7 @@ module _ (d : Domain) where
     turned_by_places : (s : Settings) (p : Psd) → InPlaces d (turned_by d last (found t s) ts p)
     unfolding turned_by InPlaces AllEnds LastIsEnd
     turned_by_places s Psd.Yes = suffix_in_places last (found t s) k.1.0
-    turned_by_places s Psd.No = last_in_places (just (found t s)) k.1.0
+    turned_by_places s Psd.No = last_in_places (Some (found t s)) k.1.0
     turned_by_places s Psd.Unset = (k.1.0, k.1.1)
 
     pub turned_places : (r : Reply) → InPlaces d (turned d last t ts r)

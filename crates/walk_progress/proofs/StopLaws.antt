@@ -1,8 +1,8 @@
 -- What the proofs of a walk's functions cite: the targets left, one target, one turn, and the number stored.
+use Rattle.std.specs.Prelude.{Option, None, Some}
 use mathlib.Core.Path.{◌≡◌, refl, sym}
 use mathlib.Core.List.{List, [], ◌∷◌}
 use mathlib.Core.Bool.{true, false}
-use mathlib.Core.Option.{Option, none as nothing, some as just}
 use Prim.Native.Nat.{ℕ, suc, ◌+◌, ◌-◌, ◌≤◌, ◌<◌, min}
 use native.Mathlib.Omega.{arith}
 use lib.ListN.{length, drop, length-drop, drop_of_length-le}
@@ -64,16 +64,16 @@ module _ (d : Domain) where
 -- ------------------------------------------------------------------ one target
 
 module _ (β : Answers Reply) (d : Domain) (last : Option Found) where
-  pub reach_end : reach β d last [] ≡ over (just (last_summary d last))
+  pub reach_end : reach β d last [] ≡ over (Some (last_summary d last))
   unfolding reach
   reach_end = refl
 
   module _ (t : Domain) (ts : List Domain) where
-    pub reach_missing : can_ask t ≡ true → find β (asked_name t) ≡ nothing → reach β d last (t ∷ ts) ≡ pauses (pause last t (one_more d t) ts)
+    pub reach_missing : can_ask t ≡ true → find β (asked_name t) ≡ None → reach β d last (t ∷ ts) ≡ pauses (pause last t (one_more d t) ts)
     unfolding reach
     reach_missing a e = rw (a, reach, e)
 
-    pub reach_known : can_ask t ≡ true → (r : Reply) → find β (asked_name t) ≡ just r → reach β d last (t ∷ ts) ≡ reach_by d last t (one_more d t) (λ l. reach β d l ts) r
+    pub reach_known : can_ask t ≡ true → (r : Reply) → find β (asked_name t) ≡ Some r → reach β d last (t ∷ ts) ≡ reach_by d last t (one_more d t) (λ l. reach β d l ts) r
     unfolding reach
     reach_known a r e = rw (a, reach, e)
 
@@ -87,11 +87,11 @@ pub stores_open : stored_of 0 ≡ still_open
 unfolding stored_of
 stores_open = refl
 
-pub stores_failed : (d : Domain) → stored_of 1 ≡ stored_in d (ended nothing)
+pub stores_failed : (d : Domain) → stored_of 1 ≡ stored_in d (ended None)
 unfolding stored_of stored_in
 stores_failed d = refl
 
-pub stores_place : (d : Domain) (o : Organization) (n : ℕ) → n ≡ 2 + min o.begin.0 (length d) → stored_of n ≡ stored_in d (ended (just (summary_in d o)))
+pub stores_place : (d : Domain) (o : Organization) (n : ℕ) → n ≡ 2 + min o.begin.0 (length d) → stored_of n ≡ stored_in d (ended (Some (summary_in d o)))
 unfolding stored_of stored_in summary_in begin_of
 stores_place d o n e =
     let place : n - 2 ≡ length d - length (drop o.begin.0 d) = omega (arith, length-drop o.begin.0 d) in

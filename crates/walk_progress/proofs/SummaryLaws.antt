@@ -2,11 +2,10 @@
 use mathlib.Core.Path.{◌≡◌, refl, ap, sym, ◌∙◌, fun_ext}
 use mathlib.Core.List.{List, [], ◌∷◌}
 use mathlib.Core.Bool.{Bool, true, false}
-use mathlib.Core.Option.{Option, none as nothing, some as just, map, map-map}
 use Prim.Native.Nat.{ℕ, suc, ◌≤◌, ◌<◌}
 use native.Mathlib.Omega.{arith}
 use lib.ListN.{length}
-use Rattle.std.specs.Prelude.{if◌then◌else◌}
+use Rattle.std.specs.Prelude.{if◌then◌else◌, Option, None, Some, option_map}
 use Rattle.octets.specs.Octets.{same}
 use Rattle.octets.proofs.TextLaws.{same_self, same_uneven}
 use Rattle.lookup.specs.Lookup.{Name, Lookups, done, ◌>>=◌, has, run}
@@ -19,22 +18,23 @@ use Rattle.walk.specs.Walk.{record_at, Found, found, Walked, ends_walk, go_on, w
 use Rattle.walk_progress.specs.code.Summary.{Summary, or_found, summary, summarized}
 use Rattle.walk_progress.specs.code.Turns.{if_at, last_summary, one_more, wider_summary, suffix_summary, by_found, by_reply, summarized_from}
 use Rattle.walk_progress.proofs.LabelLaws.{Falls, falls_more, targets_fall}
+use Rattle.octets.proofs.RefusingLaws.{option_map_map}
 
 -- a walk, with a summary of its records in their place
 abbrev summed : (List Found → Summary) → Lookups Reply Walked → Lookups Reply (Option Summary)
-summed k t = t >>= λ fs. done (map k fs)
+summed k t = t >>= λ fs. done (option_map k fs)
 
 -- a walk at a record with this psd
 by_mark : Domain → Settings → Lookups Reply Walked → Psd → Lookups Reply Walked
-by_mark d s rest p = if ends_walk p then done (just (found d s ∷ [])) else (rest >>= λ fs. done (map (λ l. found d s ∷ l) fs))
+by_mark d s rest p = if ends_walk p then done (Some (found d s ∷ [])) else (rest >>= λ fs. done (option_map (λ l. found d s ∷ l) fs))
 
 -- a record that is chosen whether it is found or not
-itself : (f : Found) (t : Bool) → or_found (if t then just f else nothing) (just f) ≡ just f
+itself : (f : Found) (t : Bool) → or_found (if t then Some f else None) (Some f) ≡ Some f
 unfolding or_found
 itself f true = refl
 itself f false = refl
 
-or_itself : (g f : Found) (s t : Bool) → or_found (if s then just g else if t then just f else nothing) (just f) ≡ or_found (if s then just g else nothing) (just f)
+or_itself : (g f : Found) (s t : Bool) → or_found (if s then Some g else if t then Some f else None) (Some f) ≡ or_found (if s then Some g else None) (Some f)
 unfolding or_found
 or_itself g f true t = refl
 or_itself g f false t = itself f t
@@ -57,8 +57,8 @@ module _ (start : Domain) where
       organization_past = rw (unmarked (f ∷ fs)) (go (marked_organization start (f ∷ fs)))
         where
           go : (o : Option Domain) → or_shortest start (g ∷ f ∷ fs) o ≡ or_shortest start (f ∷ fs) o
-          go nothing = refl
-          go (just d) = refl
+          go None = refl
+          go (Some d) = refl
 
       -- it does not matter where the organizational domain is shorter
       forgotten : length (organizational start (f ∷ fs)) < length g.domain → summary start (g ∷ f ∷ fs) ≡ summary start (f ∷ fs)
@@ -70,7 +70,7 @@ module _ (start : Domain) where
   -- ---------------------------------------------------------------- the last record
 
   -- a record alone, at the organizational domain
-  alone : (f : Found) → organizational start (f ∷ []) ≡ f.domain → summary start (f ∷ []) ≡ last_summary start (just f)
+  alone : (f : Found) → organizational start (f ∷ []) ≡ f.domain → summary start (f ∷ []) ≡ last_summary start (Some f)
   unfolding summary last_summary found_at or_found
   alone f e = rw (e, same_self f.domain)
 
@@ -92,17 +92,17 @@ module _ (start : Domain) where
       unfolding organizational or_shortest marked_organization by_psd one_more
       alone_above h = rw (e, h)
 
-      suffix_alone : found_suffix (f ∷ []) ≡ just f
+      suffix_alone : found_suffix (f ∷ []) ≡ Some f
       unfolding found_suffix is_suffix
       suffix_alone = rw e
 
       -- "the organizational domain's, where the author's walk found one; else the psd=y one"
       module _ (h : same f.domain start ≡ false) where
-        suffix_first : summary start (f ∷ []) ≡ suffix_summary start nothing f
+        suffix_first : summary start (f ∷ []) ≡ suffix_summary start None f
         unfolding summary suffix_summary wider_summary if_at found_at or_found
         suffix_first = rw (alone_above h, h, suffix_alone, itself f _)
 
-        suffix_after : (g : Found) → g.settings.psd ≡ Psd.Unset → summary start (g ∷ f ∷ []) ≡ suffix_summary start (just g) f
+        suffix_after : (g : Found) → g.settings.psd ≡ Psd.Unset → summary start (g ∷ f ∷ []) ≡ suffix_summary start (Some g) f
         unfolding summary suffix_summary wider_summary if_at found_at or_found
         suffix_after g u = rw (organization_past g u f [], alone_above h, h, no_suffix g u (f ∷ []), suffix_alone, or_itself g f _ _)
 
@@ -110,40 +110,40 @@ module _ (start : Domain) where
 
   -- remaining targets are shorter than this
   limit : Option Found → ℕ
-  limit nothing = suc (length start)
-  limit (just g) = length g.domain
+  limit None = suc (length start)
+  limit (Some g) = length g.domain
 
   -- a summary of further records, where this is the last one so far
   Agrees : (List Found → Summary) → Option Found → Type 0
-  Agrees k nothing = (fs : List Found) → k fs ≡ summary start fs
-  Agrees k (just g) = (g.settings.psd ≡ Psd.Unset) × ((fs : List Found) → length (organizational start (g ∷ fs)) ≤ length g.domain → k fs ≡ summary start (g ∷ fs))
+  Agrees k None = (fs : List Found) → k fs ≡ summary start fs
+  Agrees k (Some g) = (g.settings.psd ≡ Psd.Unset) × ((fs : List Found) → length (organizational start (g ∷ fs)) ≤ length g.domain → k fs ≡ summary start (g ∷ fs))
 
   ended : (k : List Found → Summary) (last : Option Found) → Agrees k last → k [] ≡ last_summary start last
   unfolding Agrees summary organizational marked_organization or_shortest shortest found_at found_suffix or_found last_summary
-  ended k nothing a = a []
-  ended k (just g) a = a.1 [] (rw (alone_unset g a.0) (omega arith)) ∙ alone g (alone_unset g a.0)
+  ended k None a = a []
+  ended k (Some g) a = a.1 [] (rw (alone_unset g a.0) (omega arith)) ∙ alone g (alone_unset g a.0)
 
   module _ (k : List Found → Summary) (f : Found) where
     -- one record more
     after_last : (last : Option Found) → Agrees k last → (fs : List Found) → length (organizational start (f ∷ fs)) < limit last → k (f ∷ fs) ≡ summary start (f ∷ fs)
     unfolding Agrees limit
-    after_last nothing a fs h = a (f ∷ fs)
-    after_last (just g) a fs h = a.1 (f ∷ fs) (rw (organization_past g a.0 f fs) (omega arith)) ∙ forgotten g a.0 f fs h
+    after_last None a fs h = a (f ∷ fs)
+    after_last (Some g) a fs h = a.1 (f ∷ fs) (rw (organization_past g a.0 f fs) (omega arith)) ∙ forgotten g a.0 f fs h
 
     -- a last one, below the organizational domain
     ends_below : (last : Option Found) → Agrees k last → length (one_more start f.domain) ≤ limit last → f.settings.psd ≡ Psd.Yes → same f.domain start ≡ false → k (f ∷ []) ≡ suffix_summary start last f
     unfolding Agrees limit
-    ends_below nothing a h e n = a (f ∷ []) ∙ suffix_first f e n
-    ends_below (just g) a h e n = a.1 (f ∷ []) (rw (organization_past g a.0 f [], alone_above f e n) h) ∙ suffix_after f e n g a.0
+    ends_below None a h e n = a (f ∷ []) ∙ suffix_first f e n
+    ends_below (Some g) a h e n = a.1 (f ∷ []) (rw (organization_past g a.0 f [], alone_above f e n) h) ∙ suffix_after f e n g a.0
 
     module _ (last : Option Found) (a : Agrees k last) (h : length f.domain < limit last) where
       -- the next last one
-      agrees_next : f.settings.psd ≡ Psd.Unset → Agrees (λ fs. k (f ∷ fs)) (just f)
+      agrees_next : f.settings.psd ≡ Psd.Unset → Agrees (λ fs. k (f ∷ fs)) (Some f)
       unfolding Agrees
       agrees_next u = (u, λ fs b. after_last last a fs (omega arith))
 
       -- a last one, at the organizational domain
-      ends_here : organizational start (f ∷ []) ≡ f.domain → k (f ∷ []) ≡ last_summary start (just f)
+      ends_here : organizational start (f ∷ []) ≡ f.domain → k (f ∷ []) ≡ last_summary start (Some f)
       ends_here o = after_last last a [] (rw o h) ∙ alone f o
 
       ends_suffix : length (one_more start f.domain) ≤ limit last → f.settings.psd ≡ Psd.Yes → k (f ∷ []) ≡ suffix_summary start last f
@@ -163,12 +163,12 @@ module _ (start : Domain) where
   module _ (d : Domain) (ds : List Domain) (again : Follow ds) (last : Option Found) (k : List Found → Summary) (w : Falls start (limit last) (d ∷ ds)) (a : Agrees k last) where
     at_record : (s : Settings) (p : Psd) → s.psd ≡ p → summed k (by_mark d s (walk_over ds) p) ≡ by_found start last (found d s) (λ l. summarized_from start l ds) p
     unfolding by_mark ends_walk by_found ◌>>=◌ Falls limit
-    at_record s Psd.Yes e = ap (λ (x : Summary). done (just x)) (ends_suffix k (found d s) last a w.0 w.1 e)
-    at_record s Psd.No e = ap (λ (x : Summary). done (just x)) (ends_here k (found d s) last a w.0 (alone_no (found d s) e))
+    at_record s Psd.Yes e = ap (λ (x : Summary). done (Some x)) (ends_suffix k (found d s) last a w.0 w.1 e)
+    at_record s Psd.No e = ap (λ (x : Summary). done (Some x)) (ends_here k (found d s) last a w.0 (alone_no (found d s) e))
     at_record s Psd.Unset e =
         bind_bind (walk_over ds) _ _
-        ∙ ap (λ f. walk_over ds >>= f) (fun_ext λ o. ap done (map-map k (λ l. found d s ∷ l) o))
-        ∙ again (just (found d s)) (λ l. k (found d s ∷ l)) w.2 (agrees_next k (found d s) last a w.0 e)
+        ∙ ap (λ f. walk_over ds >>= f) (fun_ext λ o. ap done (option_map_map k (λ l. found d s ∷ l) o))
+        ∙ again (Some (found d s)) (λ l. k (found d s ∷ l)) w.2 (agrees_next k (found d s) last a w.0 e)
 
     at_reply : (r : Reply) → summed k (go_on d r (walk_over ds)) ≡ by_reply start last d (λ l. summarized_from start l ds) r
     unfolding go_on by_mark by_reply ◌>>=◌ Falls
@@ -178,20 +178,20 @@ module _ (start : Domain) where
 
   summarized_over : (ds : List Domain) → Follow ds
   unfolding walk_over summarized_from ◌>>=◌
-  summarized_over [] last k w a = ap (λ (x : Summary). done (just x)) (ended k last a)
+  summarized_over [] last k w a = ap (λ (x : Summary). done (Some x)) (ended k last a)
   summarized_over (d ∷ ds) last k w a = bind_bind (record_at d) _ _ ∙ ap (λ f. record_at d >>= f) (fun_ext (at_reply d ds (summarized_over ds) last k w a))
 
-  pub summarized_last : summarized start ≡ summarized_from start nothing (targets start)
+  pub summarized_last : summarized start ≡ summarized_from start None (targets start)
   unfolding summarized walk Agrees limit
-  summarized_last = summarized_over (targets start) nothing (summary start) (targets_fall start) (λ fs. refl)
+  summarized_last = summarized_over (targets start) None (summary start) (targets_fall start) (λ fs. refl)
 
 -- ------------------------------------------------------------------ the organizational domain
 
 -- is that of the summary
 module _ (κ : Name → Option Reply) (d : Domain) where
-  pub organization_run : run κ (organizational_domain d) ≡ onward (run κ (summarized d)) (λ o. has (map (λ s. s.organization) o))
+  pub organization_run : run κ (organizational_domain d) ≡ onward (run κ (summarized d)) (λ o. has (option_map (λ s. s.organization) o))
   unfolding organizational_domain summarized onward run summary
   organization_run =
       run_bind κ (walk d) _
-      ∙ ap (onward (run κ (walk d))) (fun_ext λ fs. ap has (sym (map-map (λ s. s.organization) (summary d) fs)))
-      ∙ sym (ap (λ u. onward u (λ o. has (map (λ s. s.organization) o))) (run_bind κ (walk d) _) ∙ onward_onward (run κ (walk d)) _ _)
+      ∙ ap (onward (run κ (walk d))) (fun_ext λ fs. ap has (sym (option_map_map (λ s. s.organization) (summary d) fs)))
+      ∙ sym (ap (λ u. onward u (λ o. has (option_map (λ s. s.organization) o))) (run_bind κ (walk d) _) ∙ onward_onward (run κ (walk d)) _ _)

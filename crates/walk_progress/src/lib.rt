@@ -4,26 +4,27 @@
 use domain::{Labels, Octet};
 use domain_labels::Target;
 use policy::Settings;
+use std::ops::ControlFlow;
 
-// The record that applies by a walk: where its domain begins, and what it sets.
+// A record that applies by a walk: where its domain begins, and what it sets.
 #[derive(Clone, Copy)]
-pub enum Applicable {
-    Nothing,
-    Record { begin: Octet, settings: Settings },
+pub struct Applicable {
+    pub begin: Octet,
+    pub settings: Settings,
 }
 
-// What a walk without an error gives: where the organizational domain begins, and the record that applies.
+// What a walk without an error gives: where the organizational domain begins, and the record that applies, if one does.
 #[derive(Clone, Copy)]
 pub struct Organization {
     pub begin: Octet,
-    pub applicable: Applicable,
+    pub applicable: Option<Applicable>,
 }
 
-// Where an open walk stops: the last record found so far, the target whose answer it lacks, and how many targets come
+// Where an open walk stops: the last record found so far, if any, the target whose answer it lacks, and how many targets come
 // after it.
 #[derive(Clone, Copy)]
 pub struct Stop {
-    pub last: Applicable,
+    pub last: Option<Applicable>,
     pub target: Target,
     pub more: Labels,
 }
@@ -37,8 +38,4 @@ pub enum Reach {
 }
 
 // What a reply makes of a walk: it is over, or goes on with the last record found.
-#[derive(Clone, Copy)]
-pub enum Turned {
-    Over(Reach),
-    On(Applicable),
-}
+pub type Turned = ControlFlow<Reach, Option<Applicable>>;

@@ -8,8 +8,9 @@ ghost use Rattle.walk_progress.specs.code.Reaching.{reach, later_targets};
 ghost use Rattle.walk_progress.specs.code.Stops.{reached_in, ReachesWhole, ReachesAfter};
 
 use domain::Labels;
+use std::ops::ControlFlow;
 use txt::Reply;
-use walk_progress::{Applicable, Reach, Stop, Turned};
+use walk_progress::{Applicable, Reach, Stop};
 
 // The walk from its start.
 pub fn reach<'a>(domains: &'a [u8], kept: &'a [u16], count: usize, d: &'a [u8]) -> Reach
@@ -17,7 +18,7 @@ pub fn reach<'a>(domains: &'a [u8], kept: &'a [u16], count: usize, d: &'a [u8]) 
 {
     let starts = domain_labels::find_starts(d);
     let all = domain_labels::count_targets(starts);
-    walk_step::reach_from(domains, kept, count, d, starts, Applicable::Nothing, all)
+    walk_step::reach_from(domains, kept, count, d, starts, None, all)
 }
 
 // The walk after its domain itself, with the record found there.
@@ -26,7 +27,7 @@ pub fn reach_on<'a>(
     kept: &'a [u16],
     count: usize,
     d: &'a [u8],
-    last: Applicable,
+    last: Option<Applicable>,
 ) -> Reach
     ensures { reached_in d.now result ≡ reach (kept_answers domains.now count kept.now) d.now (found_in d.now last) (later_targets d.now) }
 {
@@ -46,14 +47,11 @@ pub fn reach_after<'a>(
 ) -> Reach
     ensures { ReachesAfter (kept_answers domains.now count kept.now) d.now stop r result }
 {
-    let last = stop.last;
-    let target = stop.target;
-    let more = stop.more;
-    match walk_turn::turn(d, target, last, r) {
-        Turned::Over(e) => e,
-        Turned::On(next) => {
+    match walk_turn::turn(d, stop.target, stop.last, r) {
+        ControlFlow::Break(reach) => reach,
+        ControlFlow::Continue(next) => {
             let starts = domain_labels::find_starts(d);
-            walk_step::reach_from(domains, kept, count, d, starts, next, more)
+            walk_step::reach_from(domains, kept, count, d, starts, next, stop.more)
         }
     }
 }

@@ -2,11 +2,10 @@
 use mathlib.Core.Path.{◌≡◌, refl, ap, sym, ◌∙◌, fun_ext}
 use mathlib.Core.List.{List, ◌∷◌}
 use mathlib.Core.Bool.{Bool, true, false}
-use mathlib.Core.Option.{Option, none as nothing, some as just}
 use Prim.Native.Nat.{ℕ, zero, suc, ◌-◌, ◌≤◌, ◌<◌, min}
 use native.Mathlib.Omega.{arith}
 use lib.ListN.{length, drop}
-use Rattle.std.specs.Prelude.{if◌then◌else◌}
+use Rattle.std.specs.Prelude.{if◌then◌else◌, Some, Option, None}
 use Rattle.lookup.specs.Lookup.{Answers, find}
 use Rattle.domain.specs.declared.Octet.{Octet}
 use Rattle.domain.specs.Domain.{Domain, targets, can_ask, asked_name}
@@ -17,8 +16,7 @@ use Rattle.domain.specs.OnePass.{Passes}
 use Rattle.domain_labels.proofs.StartLaws.{finds_target, targets_counted}
 use Rattle.txt.specs.declared.Reply.{Reply}
 use Rattle.walk.specs.Walk.{Found}
-use Rattle.walk_known.specs.code.Kept.{looked, looked_at}
-use Rattle.walk_known.specs.declared.Looked.{Looked}
+use Rattle.walk_known.specs.code.Kept.{looked_at}
 use Rattle.walk_progress.specs.declared.Applicable.{Applicable}
 use Rattle.walk_progress.specs.declared.Reach.{Reach}
 use Rattle.walk_progress.specs.code.Summary.{found_in}
@@ -31,7 +29,7 @@ use Rattle.walk_step.specs.code.Steps.{by_looked, reach_at, reach_placed, Reache
 module _ (β : Answers Reply) (d : Domain) where
   -- with none left, and with one more
   module _ (begins : List Octet) (last : Option Found) where
-    pub placed_end : (n : ℕ) → n ≤ 0 → reach_placed β d begins last n ≡ over (just (last_summary d last))
+    pub placed_end : (n : ℕ) → n ≤ 0 → reach_placed β d begins last n ≡ over (Some (last_summary d last))
     unfolding reach_placed
     placed_end zero h = refl
     placed_end (suc n) h = absurd (omega arith)
@@ -45,14 +43,14 @@ module _ (β : Answers Reply) (d : Domain) where
 
   reach_looked : (last : Option Found) (t : Domain) (n : ℕ)
       → reach β d last (t ∷ targets_left d n) ≡ by_looked d last t (one_more d t) n (λ l. reach β d l (targets_left d n)) (looked_at β t)
-  unfolding looked looked_at by_looked
+  unfolding looked_at by_looked
   reach_looked last t n = go (can_ask t) refl (find β (asked_name t)) refl
     where
       go : (b : Bool) → can_ask t ≡ b → (o : Option Reply) → find β (asked_name t) ≡ o
           → reach β d last (t ∷ targets_left d n)
-          ≡ by_looked d last t (one_more d t) n (λ l. reach β d l (targets_left d n)) (if can_ask t then looked (find β (asked_name t)) else Looked.Known Reply.NoRecord)
-      go true a nothing e = rw (reach_missing β d last t (targets_left d n) a e, a, e)
-      go true a (just r) e = rw (reach_known β d last t (targets_left d n) a r e, a, e)
+          ≡ by_looked d last t (one_more d t) n (λ l. reach β d l (targets_left d n)) (if can_ask t then find β (asked_name t) else Some Reply.NoRecord)
+      go true a None e = rw (reach_missing β d last t (targets_left d n) a e, a, e)
+      go true a (Some r) e = rw (reach_known β d last t (targets_left d n) a r e, a, e)
       go false a o e = rw (reach_skipped β d last t (targets_left d n) a, a)
 
   -- one target
@@ -73,7 +71,7 @@ module _ (β : Answers Reply) (d : Domain) where
         ∙ at_found last n h (target_by s.begins (suc n)) (finds_target d (suc n) (omega arith) h s pass)
 
     -- so the walk goes as far as it can
-    pub reaches_from : (last : Applicable) (n : ℕ) (r : Reach) → ReachesPlaced β d s last n r → ReachesFrom β d last n r
+    pub reaches_from : (last : Option Applicable) (n : ℕ) (r : Reach) → ReachesPlaced β d s last n r → ReachesFrom β d last n r
     reaches_from last n r e =
         let all : min 8 s.labels.0 ≡ length (targets d) = targets_counted d s pass _ refl in
         e

@@ -6,7 +6,7 @@ ghost use Rattle.walk_step.specs.code.Steps.{Steps, ReachesPlaced};
 
 use domain::{Labels, Starts};
 use domain_labels::Target;
-use walk_known::Looked;
+use std::ops::ControlFlow;
 use walk_progress::{Applicable, Reach, Stop, Turned};
 
 // A walk at one target, with so many more after it.
@@ -16,15 +16,14 @@ fn step<'a>(
     count: usize,
     d: &'a [u8],
     target: Target,
-    last: Applicable,
+    last: Option<Applicable>,
     more: Labels,
 ) -> Turned
     ensures { Steps (kept_answers domains.now count kept.now) d.now target last more.0 result }
 {
-    let begin = target.begin;
-    match walk_known::look_at(domains, kept, count, d, begin) {
-        Looked::Missing => Turned::Over(Reach::Stops(Stop { last, target, more })),
-        Looked::Known(r) => walk_turn::turn(d, target, last, r),
+    match walk_known::look_at(domains, kept, count, d, target.begin) {
+        None => ControlFlow::Break(Reach::Stops(Stop { last, target, more })),
+        Some(r) => walk_turn::turn(d, target, last, r),
     }
 }
 
@@ -35,21 +34,20 @@ pub fn reach_from<'a>(
     count: usize,
     d: &'a [u8],
     starts: Starts,
-    first: Applicable,
+    first: Option<Applicable>,
     left: Labels,
 ) -> Reach
     ensures { ReachesPlaced (kept_answers domains.now count kept.now) d.now starts first left.0 result }
 {
     let mut last = first;
-    let mut more = text_parts::smaller(left.0, domain_labels::count_targets(starts).0);
-    while 0 < more {
-        let target = domain_labels::find_target(starts, Labels(more));
-        more = more - 1;
+    let targets = left.0.min(domain_labels::count_targets(starts).0);
+    for more in (0..targets).rev() {
+        let target = domain_labels::find_target(starts, Labels(more + 1));
         match step(domains, kept, count, d, target, last, Labels(more)) {
-            Turned::Over(e) => {
-                return e;
+            ControlFlow::Break(reach) => {
+                return reach;
             }
-            Turned::On(next) => {
+            ControlFlow::Continue(next) => {
                 last = next;
             }
         }

@@ -24,14 +24,13 @@ pub struct KeptStop {
 pub fn no_stop() -> KeptStop
     ensures { result ≡ blank_stop }
 {
-    let begin = Octet(0);
     KeptStop {
         found: 0,
-        begin,
+        begin: Octet(0),
         settings: 0,
         target: Target {
-            begin,
-            wider: begin,
+            begin: Octet(0),
+            wider: Octet(0),
         },
         more: Labels(0),
     }
@@ -41,23 +40,18 @@ pub fn no_stop() -> KeptStop
 pub fn keep_stop(s: Stop) -> KeptStop
     ensures { stop_in result ≡ s }
 {
-    let target = s.target;
-    let more = s.more;
-    let last = s.last;
-    match last {
-        Applicable::Nothing => KeptStop {
-            found: 0,
-            begin: Octet(0),
-            settings: 0,
-            target,
-            more,
+    match s.last {
+        None => KeptStop {
+            target: s.target,
+            more: s.more,
+            ..no_stop()
         },
-        Applicable::Record { begin, settings } => KeptStop {
+        Some(record) => KeptStop {
             found: 1,
-            begin,
-            settings: txt_codes::encode_settings(settings),
-            target,
-            more,
+            begin: record.begin,
+            settings: txt_codes::encode_settings(record.settings),
+            target: s.target,
+            more: s.more,
         },
     }
 }
@@ -66,17 +60,17 @@ pub fn keep_stop(s: Stop) -> KeptStop
 pub fn read_stop(k: KeptStop) -> Stop
     ensures { result ≡ stop_in k }
 {
-    let begin = k.begin;
-    let target = k.target;
-    let more = k.more;
-    if k.found == 0 {
-        return Stop {
-            last: Applicable::Nothing,
-            target,
-            more,
-        };
+    let last = if k.found == 0 {
+        None
+    } else {
+        Some(Applicable {
+            begin: k.begin,
+            settings: txt_codes::decode_settings(k.settings),
+        })
+    };
+    Stop {
+        last,
+        target: k.target,
+        more: k.more,
     }
-    let settings = txt_codes::decode_settings(k.settings);
-    let last = Applicable::Record { begin, settings };
-    Stop { last, target, more }
 }

@@ -1,6 +1,6 @@
 -- Laws of one turn of a walk, and of the number stored of it.
+use Rattle.std.specs.Prelude.{Option, None, Some}
 use mathlib.Core.Path.{◌≡◌, refl, ap, sym, ◌∙◌}
-use mathlib.Core.Option.{Option, none as nothing, some as just}
 use Prim.Native.Nat.{ℕ, ◌+◌, ◌≤◌, ◌<◌, min}
 use native.Mathlib.Omega.{arith}
 use lib.ListN.{length, length-drop}
@@ -30,18 +30,18 @@ by_psd d last target wider on s e u h = h ∙ ap (reach_found d last (found targ
 pub within_short : (d : Domain) (p : Progress) → length d ≤ 253 → within_253 (stored_in d p) ≡ stored_in d p
 unfolding within_253 stored_in begin_of
 within_short d (open_walk last ds) h = refl
-within_short d (ended nothing) h = refl
-within_short d (ended (just s)) h = rw (le-leb (begin_of s.organization d) 253 (omega arith))
+within_short d (ended None) h = refl
+within_short d (ended (Some s)) h = rw (le-leb (begin_of s.organization d) 253 (omega arith))
 
 module _ (d : Domain) (o : Organization) (n : ℕ) (place : n ≡ min o.begin.0 (length d)) where
   begins_there : begin_of (summary_in d o).organization d ≡ n
   unfolding begin_of summary_in
   begins_there = omega (arith, length-drop o.begin.0 d)
 
-  pub stores_within : n ≤ 253 → stored_of (2 + n) ≡ within_253 (stored_in d (ended (just (summary_in d o))))
+  pub stores_within : n ≤ 253 → stored_of (2 + n) ≡ within_253 (stored_in d (ended (Some (summary_in d o))))
   unfolding within_253 stored_in
   stores_within h = stores_place d o (2 + n) (omega arith) ∙ rw (begins_there, le-leb n 253 h)
 
-  pub stores_past : 253 < n → stored_of 0 ≡ within_253 (stored_in d (ended (just (summary_in d o))))
+  pub stores_past : 253 < n → stored_of 0 ≡ within_253 (stored_in d (ended (Some (summary_in d o))))
   unfolding within_253 stored_in
   stores_past h = stores_open ∙ rw (begins_there, lt-leb n 253 h)

@@ -10,31 +10,32 @@ ghost use Rattle.walk_turn.specs.code.Storing.{within_253};
 
 use domain_labels::Target;
 use policy::{Psd, Settings};
+use std::ops::ControlFlow;
 use txt::Reply;
 use walk_progress::{Applicable, Reach, Turned};
 
 // A walk after a record at a target.
-fn turn_found(d: &[u8], at: Target, last: Applicable, settings: Settings) -> Turned
+fn turn_found(d: &[u8], at: Target, last: Option<Applicable>, settings: Settings) -> Turned
     ensures { Turns d.now at last (Reply.Record settings) result }
 {
-    let begin = at.begin;
-    let record = Applicable::Record { begin, settings };
-    let end = walk_end::end_at(record);
-    let psd = settings.psd;
-    match psd {
-        Psd::Yes => Turned::Over(walk_end::end_suffix(d, at, last, settings)),
-        Psd::No => Turned::Over(end),
-        Psd::Unset => Turned::On(record),
+    let record = Applicable {
+        begin: at.begin,
+        settings,
+    };
+    match settings.psd {
+        Psd::Yes => ControlFlow::Break(walk_end::end_suffix(d, at, last, settings)),
+        Psd::No => ControlFlow::Break(walk_end::end_at(Some(record))),
+        Psd::Unset => ControlFlow::Continue(Some(record)),
     }
 }
 
 // A walk after a reply at a target.
-pub fn turn(d: &[u8], at: Target, last: Applicable, r: Reply) -> Turned
+pub fn turn(d: &[u8], at: Target, last: Option<Applicable>, r: Reply) -> Turned
     ensures { Turns d.now at last r result }
 {
     match r {
-        Reply::Error => Turned::Over(Reach::Failed),
-        Reply::NoRecord => Turned::On(last),
+        Reply::Error => ControlFlow::Break(Reach::Failed),
+        Reply::NoRecord => ControlFlow::Continue(last),
         Reply::Record(settings) => turn_found(d, at, last, settings),
     }
 }
@@ -48,12 +49,8 @@ pub fn stored_number(d: &[u8], w: Reach) -> u16
         Reach::Stops(_) => 0,
         Reach::Failed => 1,
         Reach::Done(o) => {
-            let begin = o.begin;
-            let place = domain_labels::clip(d, begin).0;
-            if 253 < place {
-                return 0;
-            }
-            (2 + place) as u16
+            let place = domain_labels::clip(d, o.begin).0;
+            if place <= 253 { (2 + place) as u16 } else { 0 }
         }
     }
 }

@@ -23,11 +23,9 @@ pub extern "C" fn waslidhaj_check_start_by_value(
     ensures { Gives check (start policy.now entry.now) result [] }
 {
     let changed = address_start::start(check, policy, entry);
-    let after = changed.check;
-    let acceptance = changed.acceptance;
     CheckCalled {
-        check: after,
-        given: address_given::number_acceptance(acceptance),
+        check: changed.check,
+        given: address_given::number_acceptance(changed.acceptance),
     }
 }
 
@@ -37,11 +35,9 @@ pub extern "C" fn waslidhaj_check_next_by_value(check: Check) -> CheckCalled
     ensures { Gives check next result [] }
 {
     let stepped = address_next::next(check);
-    let after = stepped.check;
-    let step = stepped.step;
     CheckCalled {
-        check: after,
-        given: address_given::number_step(step),
+        check: stepped.check,
+        given: address_given::number_step(stepped.step),
     }
 }
 
@@ -58,11 +54,9 @@ pub extern "C" fn waslidhaj_check_answer_by_value(
 {
     let kind = txt_codes::read_status(status);
     let changed = address_answer::answer(check, name, kind, bytes, scratch);
-    let after = changed.check;
-    let acceptance = changed.acceptance;
     CheckCalled {
-        check: after,
-        given: address_given::number_acceptance(acceptance),
+        check: changed.check,
+        given: address_given::number_acceptance(changed.acceptance),
     }
 }
 

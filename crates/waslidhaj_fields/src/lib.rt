@@ -2,26 +2,26 @@
 #![tactic(auto)]
 
 ghost use Rattle.std.specs.Prelude.{◌≡◌};
-ghost use Rattle.field.specs.Numbers.{field_read};
-ghost use Rattle.field.specs.Numbers.{field_read_numbers};
+ghost use Rattle.field.specs.Numbers.{field_read, field_read_numbers};
 
-use field::{FieldNumbers, FieldRead};
+use field::{FieldNumbers, NamedMethods};
 use octets::Refusal;
 
 // What was read, by numbers.
-fn number_field(read: FieldRead) -> FieldNumbers
+#[tactic(auto, unfolding(field::specs::Numbers::field_read_numbers, octets::specs::Octets::flag))]
+fn number_field(read: Result<NamedMethods, Refusal>) -> FieldNumbers
     ensures { result ≡ field_read_numbers read }
 {
     match read {
-        FieldRead::Named(m) => FieldNumbers {
+        Ok(m) => FieldNumbers {
             refusal: Refusal {
                 number: 0,
                 place: 0,
             },
-            dkim: octets_write::number_flag(m.dkim),
-            spf: octets_write::number_flag(m.spf),
+            dkim: u8::from(m.dkim),
+            spf: u8::from(m.spf),
         },
-        FieldRead::Refused(refusal) => FieldNumbers {
+        Err(refusal) => FieldNumbers {
             refusal,
             dkim: 1,
             spf: 1,

@@ -32,13 +32,12 @@ pub extern "C" fn waslidhaj_report_apart<'a>(
 ) -> WrittenNumbers
     ensures { WritesByNumbers (report (listing list (rows_in gathered)) (record { authors = authors.now; sets = sets.now }) (record { organization = organization.now; email = email.now; contact = contact.now; id = id.now; begin = begin; end = end }) (settings_in numbers)) out.old result out.new }
 {
-    let rows = gathered.octets;
     let settings = publishing_numbers::settings_in(numbers);
     let written = report_write::write_report(
         list,
         settings,
         gathered.count,
-        &rows,
+        &gathered.octets,
         authors,
         sets,
         organization,
@@ -62,6 +61,5 @@ pub extern "C" fn waslidhaj_subject_apart<'a>(
 ) -> WrittenNumbers
     ensures { WritesByNumbers (subject receiver.now domain.now id.now) out.old result out.new }
 {
-    let subject = report_subject::write_subject(receiver, domain, id, out);
-    octets_write::number_written(subject)
+    octets_write::number_written(report_subject::write_subject(receiver, domain, id, out))
 }

@@ -5,7 +5,9 @@
 ghost use Rattle.std.specs.Prelude.{◌≡◌};
 ghost use Rattle.rows.specs.History.{clear, enter};
 ghost use Rattle.rows_day.specs.Day.{never_cleared, Does};
+ghost use Rattle.rows_check.specs.code.Check.{refusal_in};
 
+use octets::Refusal;
 use rows::{Entry, Row};
 use rows_day::{Changed, DayList};
 
@@ -26,12 +28,28 @@ pub extern "C" fn waslidhaj_new_list() -> DayList
 pub extern "C" fn waslidhaj_clear_apart(list: DayList, domain: &[u8], rows: &mut [Row]) -> Changed
     ensures { Does (clear domain.now) list rows.old result rows.new }
 {
-    let changed = rows_check::rename(list, domain);
-    if rows_check::is_refused(changed) {
-        return changed;
+    match rows_check::named(domain) {
+        Ok(named) => {
+            rows_note::empty(rows);
+            rows_check::answered(named, Ok(()))
+        }
+        Err(refusal) => Changed { list, refusal },
     }
-    rows_note::empty(rows);
-    changed
+}
+
+// A verdict is entered, or refused.
+fn enter<'a>(
+    list: DayList,
+    entry: Entry,
+    domain: &'a [u8],
+    authors: &'a [u8],
+    sets: &'a [u8],
+    rows: &mut [Row],
+) -> Result<(), Refusal>
+    ensures { Does (enter entry (record { authors = authors.now; sets = sets.now }) domain.now) list rows.old (record { list = list; refusal = refusal_in result }) rows.new }
+{
+    rows_check::check(list, entry, domain, authors, sets)?;
+    rows_note::note(rows, rows_check::seen_in(entry))
 }
 
 // A verdict is entered, with the domain of its applied record and the lists beside the rows.
@@ -46,11 +64,6 @@ pub extern "C" fn waslidhaj_enter_apart<'a>(
 ) -> Changed
     ensures { Does (enter entry (record { authors = authors.now; sets = sets.now }) domain.now) list rows.old result rows.new }
 {
-    let checked = rows_check::check(list, entry, domain, authors, sets);
-    if checked != 0 {
-        return rows_check::answered(list, checked);
-    }
-    let seen = rows_check::seen_in(entry);
-    let number = rows_note::note(rows, seen);
-    rows_check::answered(list, number)
+    let answer = enter(list, entry, domain, authors, sets, rows);
+    rows_check::answered(list, answer)
 }

@@ -126,7 +126,7 @@ const TABLES: [(&str, &str, &[&str]); 17] = [
         "answer_table",
         &["Agreement.PlainNo)", "Agreement.Confirmed)", "replaced"],
     ),
-    (CHECKS, "host_table", &["nothing)", "just"]),
+    (CHECKS, "host_table", &["None)", "Some"]),
 ];
 const CHECKS: &str = "address/specs/Marked.antt";
 

@@ -19,36 +19,36 @@ returns-in-Nothing c =
     (answer_not_now a.c (kept_full (goal.at.returns-in-Nothing c).Start) a.name.now a.status a.bytes.now a.scratch.now (c.is_live-live.ensures (pair_now a.c))
     (rw c.in-Nothing.is at c.find_asked.ensures))
 
-pub returns-in-Refused : goal.returns-in-Refused
+pub returns-in-Err : goal.returns-in-Err
 unfolding pair_now cursor_now
-returns-in-Refused c =
+returns-in-Err c =
     let a = c.args in
-    rw c.refused-in-Refused.ensures
-    (walk_refused a.c (kept_full (goal.at.returns-in-Refused c).Start) a.name.now a.status a.bytes.now a.scratch.now (c.is_live-live.ensures (pair_now a.c)) _ _
-    (rw c.in-Walk.is at c.find_asked.ensures) _ c.in-Refused.f
-    (rw c.in-Refused.is at c.take_answer.ensures))
+    rw c.refused-in-Err.ensures
+    (walk_refused a.c (kept_full (goal.at.returns-in-Err c).Start) a.name.now a.status a.bytes.now a.scratch.now (c.is_live-live.ensures (pair_now a.c)) _ _
+    (rw c.in-Walk.is at c.find_asked.ensures) _ c.in-Err.f
+    (rw c.in-Err.is at c.take_answer.ensures))
 
-pub returns-in-Reply : goal.returns-in-Reply
+pub returns-in-Ok : goal.returns-in-Ok
 unfolding pair_now cursor_now
-returns-in-Reply c =
+returns-in-Ok c =
     let a = c.args in
-    walk_accepted a.c (kept_full (goal.at.returns-in-Reply c).Start) a.name.now a.status a.bytes.now a.scratch.now (c.is_live-live.ensures (pair_now a.c)) _ _
-    (rw c.in-Walk.is at c.find_asked.ensures) _ c.in-Reply.r
-    (rw c.in-Reply.is at c.take_answer.ensures) c.accept.result c.accept.ensures
+    walk_accepted a.c (kept_full (goal.at.returns-in-Ok c).Start) a.name.now a.status a.bytes.now a.scratch.now (c.is_live-live.ensures (pair_now a.c)) _ _
+    (rw c.in-Walk.is at c.find_asked.ensures) _ c.in-Ok.r
+    (rw c.in-Ok.is at c.take_answer.ensures) c.accept.result c.accept.ensures
 
-pub returns-in-Refused-take_confirming : goal.returns-in-Refused-take_confirming
+pub returns-in-Err-take_confirming : goal.returns-in-Err-take_confirming
 unfolding pair_now cursor_now
-returns-in-Refused-take_confirming c =
+returns-in-Err-take_confirming c =
     let a = c.args in
-    rw c.refused-in-Refused-take_confirming.ensures
-    (confirming_refused a.c (kept_full (goal.at.returns-in-Refused-take_confirming c).Start) a.name.now a.status a.bytes.now a.scratch.now (c.is_live-live.ensures (pair_now a.c))
-    (rw c.in-Confirming.is at c.find_asked.ensures) c.slot-host.ensures _ c.in-Refused-take_confirming.f
-    (rw c.in-Refused-take_confirming.is at c.take_confirming.ensures))
+    rw c.refused-in-Err-take_confirming.ensures
+    (confirming_refused a.c (kept_full (goal.at.returns-in-Err-take_confirming c).Start) a.name.now a.status a.bytes.now a.scratch.now (c.is_live-live.ensures (pair_now a.c))
+    (rw c.in-Confirming.is at c.find_asked.ensures) c.slot-host.ensures _ c.in-Err-take_confirming.f
+    (rw c.in-Err-take_confirming.is at c.take_confirming.ensures))
 
-pub returns-in-Says : goal.returns-in-Says
+pub returns-in-Ok-take_confirming : goal.returns-in-Ok-take_confirming
 unfolding pair_now cursor_now
-returns-in-Says c =
+returns-in-Ok-take_confirming c =
     let a = c.args in
-    confirming_accepted a.c (kept_full (goal.at.returns-in-Says c).Start) a.name.now a.status a.bytes.now a.scratch.now (c.is_live-live.ensures (pair_now a.c))
-    (rw c.in-Confirming.is at c.find_asked.ensures) c.slot-host.ensures _ c.in-Says.a
-    (rw c.in-Says.is at c.take_confirming.ensures) c.settle.result c.settle.ensures
+    confirming_accepted a.c (kept_full (goal.at.returns-in-Ok-take_confirming c).Start) a.name.now a.status a.bytes.now a.scratch.now (c.is_live-live.ensures (pair_now a.c))
+    (rw c.in-Confirming.is at c.find_asked.ensures) c.slot-host.ensures _ c.in-Ok-take_confirming.a
+    (rw c.in-Ok-take_confirming.is at c.take_confirming.ensures) c.settle.result c.settle.ensures

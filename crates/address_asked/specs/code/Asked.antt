@@ -1,6 +1,5 @@
 -- What an answer is taken for.
-use Rattle.std.specs.Prelude.{◌≡◌, Bool, true, false, ◌&&◌, ◌≤◌}
-use Rattle.std.proofs.Math.Option.{Option, none as nothing, some as just}
+use Rattle.std.specs.Prelude.{◌≡◌, Bool, true, false, ◌&&◌, ◌≤◌, Option, None, Some}
 use Rattle.octets.specs.Octets.{Octets, same_text}
 use Rattle.lookup.specs.Lookup.{Name, needs}
 use Rattle.domain.specs.Domain.{without_dot}
@@ -13,8 +12,8 @@ use Rattle.address_asked.specs.declared.WaitedFor.{WaitedFor}
 
 -- whether an answer is waited for and given by the name that is needed
 unfoldable pub is_for : Octets → Option Name → Bool
-is_for name nothing = false
-is_for name (just n) = same_text (without_dot name) n
+is_for name None = false
+is_for name (Some n) = same_text (without_dot name) n
 
 -- for no name; for the target of the open walk; for the confirming name
 unfoldable pub Waits : Pair → CheckPoint → (live : Bool) → (name : Octets) → WaitedFor → Type 0

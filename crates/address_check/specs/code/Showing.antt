@@ -1,6 +1,5 @@
 -- When what a check keeps shows the book of checks.
-use Rattle.std.specs.Prelude.{◌≡◌, List, Bool, true, false, leb, length}
-use Rattle.std.proofs.Math.Option.{none as nothing, some as just}
+use Rattle.std.specs.Prelude.{◌≡◌, List, Bool, true, false, leb, length, None, Some}
 use Rattle.octets.specs.Octets.{lower}
 use Rattle.lookup.specs.Lookup.{Name, Lookups, done, ◌>>=◌, Answers, names, find, needs}
 use Rattle.lookup.specs.code.Following.{Follows}
@@ -37,7 +36,7 @@ pub record KeptCursor (β : Answers Answer) (c : Pair) (x : Cursor) : Type 0 whe
   pub follows : Follows β (check_lookups c) (left c x)
   pub waits : Waits β c x
   -- until the outcome the confirming name has no answer
-  pub lacks : is_settled x ≡ false → find β (confirming_name c.policy c.host) ≡ nothing
+  pub lacks : is_settled x ≡ false → find β (confirming_name c.policy c.host) ≡ None
 
 pub record Shows (k : Keeps) (b : CheckBook) : Type 0 where
   pub pair : k.pair ≡ b.pair
@@ -46,8 +45,8 @@ pub record Shows (k : Keeps) (b : CheckBook) : Type 0 where
   -- the replies are those of the book's answers, until the confirming name is answered; then the check is at its outcome
   pub same_replies : k.confirmed ≡ false → k.replies ≡ replies b.run.taken
   pub at_its_end : k.confirmed ≡ true → is_settled k.at ≡ true
-  pub kept : (c : Pair) → b.pair ≡ just c → KeptCursor b.run.taken c k.at
+  pub kept : (c : Pair) → b.pair ≡ Some c → KeptCursor b.run.taken c k.at
   -- what is asked is what it stands at
-  pub stands_at : (c : Pair) → b.pair ≡ just c → (n : Name) → b.run.asked ≡ just n → stands c k.at ≡ needs n
+  pub stands_at : (c : Pair) → b.pair ≡ Some c → (n : Name) → b.run.asked ≡ Some n → stands c k.at ≡ needs n
   -- the host is in lower case
-  pub lowered : (c : Pair) → b.pair ≡ just c → lower c.host ≡ c.host
+  pub lowered : (c : Pair) → b.pair ≡ Some c → lower c.host ≡ c.host

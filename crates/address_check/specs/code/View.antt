@@ -1,6 +1,5 @@
 -- What a check keeps, read from its numbers. Every check is read, those too that no call can make.
-use Rattle.std.specs.Prelude.{List, [], ◌∷◌, Bool, true, false, ℕ, drop, get_or}
-use Rattle.std.proofs.Math.Option.{Option, none as nothing, some as just}
+use Rattle.std.specs.Prelude.{List, [], ◌∷◌, Bool, true, false, ℕ, drop, get_or, Result, Ok, Err, Option, None, Some}
 use Rattle.octets.specs.Octets.{is_set}
 use Rattle.lookup.specs.Lookup.{Name, Answers}
 use Rattle.txt.specs.declared.Reply.{Reply}
@@ -14,11 +13,11 @@ use Rattle.address_check.specs.declared.PointKind.{PointKind}
 use Rattle.address_check.specs.declared.CheckPoint.{CheckPoint}
 use Rattle.address_check.specs.declared.Check.{Check}
 use Rattle.address_check.specs.declared.CheckStep.{CheckStep}
-use Rattle.address_check.specs.declared.CheckResulting.{CheckResulting}
-use Rattle.address_check.specs.declared.CheckAcceptance.{CheckAcceptance}
 use Rattle.address_check.specs.Numbers.{pair_now, check_name}
 use Rattle.address_check.specs.code.Cursor.{Cursor, on_policy, on_host, on_confirming, settled, stands, needed}
 use Rattle.address_check.specs.code.Machine.{Keeps, keeps_nothing}
+use Rattle.address_check.specs.declared.CheckOutcome.{CheckOutcome}
+use Rattle.octets.specs.declared.Refusal.{Refusal}
 
 -- ------------------------------------------------------------------ what a check keeps
 
@@ -50,13 +49,13 @@ unfoldable pub cursor_now : Check → Cursor
 cursor_now e = cursor_in (pair_now e) e.point
 
 unfoldable pub asked_now : Check → (asked : Bool) → Option Name
-asked_now e false = nothing
+asked_now e false = None
 asked_now e true = needed (stands (pair_now e) (cursor_now e))
 
 unfoldable pub view_by : Check → (started : Bool) → Keeps
 view_by e false = keeps_nothing
 view_by e true = record {
-  pair = just (pair_now e);
+  pair = Some (pair_now e);
   replies = replies_now e;
   confirmed = is_set e.confirmed;
   asked = asked_now e (is_set e.asked);
@@ -73,10 +72,10 @@ step_back e (CheckStep.Ask walk place) = ask_name (check_name e walk place)
 step_back e (CheckStep.Outcome o) = verdict o.agreement o.count
 step_back e (CheckStep.Refused f) = refused f
 
-unfoldable pub resulting_back : CheckResulting → Back Agreement
-resulting_back (CheckResulting.Outcome o) = verdict o.agreement o.count
-resulting_back (CheckResulting.Refused f) = refused f
+unfoldable pub resulting_back : Result CheckOutcome Refusal → Back Agreement
+resulting_back (Ok o) = verdict o.agreement o.count
+resulting_back (Err f) = refused f
 
-unfoldable pub acceptance_back : CheckAcceptance → Back Agreement
-acceptance_back CheckAcceptance.Accepted = accepted
-acceptance_back (CheckAcceptance.Refused f) = refused f
+unfoldable pub acceptance_back : Result Unit Refusal → Back Agreement
+acceptance_back (Ok tt) = accepted
+acceptance_back (Err f) = refused f

@@ -1,8 +1,8 @@
 -- `address_entry::after_last` meets its contract. The loop's invariant: no mark stands from place `i` on.
-use mathlib.Core.Path.{◌≡◌, ap, sym, ◌∙◌}
+use mathlib.Core.Path.{◌≡◌}
+use Prim.Native.Nat.{◌+◌, ◌-◌}
 use native.Mathlib.Omega.{arith}
 use Rattle.octets.proofs.LentLaws.{rest_of}
-use Rattle.address_entry.specs.code.Hosts.{or_none}
 use Rattle.address_entry.proofs.EntryLaws.{last_mark, no_mark, end_mark}
 use Rattle.address_entry.proofs.after_last.Goals as goal
 
@@ -10,11 +10,11 @@ pub loop-i-init : goal.loop-i-init
 loop-i-init c = (omega arith, end_mark c.args.mark c.args.s.now)
 
 pub returns-then-s-i : goal.returns-then-s-i
-unfolding or_none
 returns-then-s-i c =
     let a = c.args in
     let m = c.loop-i in
-    rest_of a.s.now m.i ∙ ap or_none (sym (last_mark a.mark a.s.now m.i (omega arith) (omega arith) m.invariant.1 c.if-s-i.true))
+    let next : m.i - 1 + 1 ≡ m.i = omega arith in
+    rw (next, rest_of) (last_mark a.mark a.s.now m.i (omega arith) (omega arith) m.invariant.1 c.if-s-i.true)
 
 pub loop-i-preserved : goal.loop-i-preserved
 loop-i-preserved c =
@@ -23,9 +23,6 @@ loop-i-preserved c =
     (omega arith, no_mark a.mark a.s.now m.i (omega arith) (omega arith) m.invariant.1 c.if-s-i.false)
 
 pub returns : goal.returns
-unfolding or_none
 returns c =
-    let a = c.args in
-    let m = c.loop-i in
-    let first : m.i ≡ 0 = omega arith in
-    sym (ap or_none (rw first at m.invariant.1))
+    let first : c.loop-i.i ≡ 0 = omega arith in
+    rw first at c.loop-i.invariant.1

@@ -3,10 +3,10 @@ use Rattle.address_check.specs.Numbers.{Tells}
 use Rattle.address_check.specs.code.View.{resulting_back}
 use Rattle.address_given.proofs.number_resulting.Goals as goal
 
-pub returns-in-Outcome : goal.returns-in-Outcome
+pub returns-in-Ok : goal.returns-in-Ok
 unfolding Tells resulting_back
-returns-in-Outcome c = λ e. rw c.in-Outcome.is c.tell.ensures
+returns-in-Ok c = λ e. rw c.in-Ok.is c.tell.ensures
 
-pub returns-in-Refused : goal.returns-in-Refused
+pub returns-in-Err : goal.returns-in-Err
 unfolding Tells resulting_back
-returns-in-Refused c = λ e. rw c.in-Refused.is c.refuse.ensures
+returns-in-Err c = λ e. rw c.in-Err.is c.refuse.ensures

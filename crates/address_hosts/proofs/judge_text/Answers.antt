@@ -16,7 +16,7 @@ said v =
     let a = v.args in
     let h = lower a.host.now in
     ap (record_said a.text.now) (v.judge_rua.ensures ∙ ap (λ t. hosts_said h (rua_hosts t)) (v.rua.ensures ∙ rua_there a.text.now))
-    ∙ a_record h a.text.now _ (sym v.read.ensures ∙ v.in-Record.is)
+    ∙ a_record h a.text.now _ (sym v.read.ensures ∙ v.in-Some.is)
 
 pub returns-in_default : goal.returns-in_default
 returns-in_default c =

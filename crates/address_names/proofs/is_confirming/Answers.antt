@@ -4,16 +4,15 @@ use native.Mathlib.Omega.{arith}
 use Rattle.octets.specs.Octets.{octets}
 use Rattle.address_names.proofs.NameLaws.{too_short, in_parts}
 use Rattle.address_names.proofs.is_confirming.Goals as goal
+use Rattle.address_names.proofs.is_confirming.Goals.{then-name-size-via-then-name-size, then-name-size-via-else-name-size+then-name-size-lt16}
 
-pub returns-then-name-policy : goal.returns-then-name-policy
-returns-then-name-policy c =
+pub returns-then-name-size : goal.returns-then-name-size
+returns-then-name-size c =
     let a = c.args in
-    too_short a.name.now a.policy.now a.host.now (omega arith)
-
-pub returns-then-name-size-lt16 : goal.returns-then-name-size-lt16
-returns-then-name-size-lt16 c =
-    let a = c.args in
-    too_short a.name.now a.policy.now a.host.now (omega arith)
+    too_short a.name.now a.policy.now a.host.now (elim c.then-name-size.branch [
+      | then-name-size-via-then-name-size w ↦ omega arith
+      | then-name-size-via-else-name-size+then-name-size-lt16 w ↦ omega arith
+    ])
 
 pub returns-then-not-same_text : goal.returns-then-not-same_text
 unfolding octets

@@ -1,5 +1,6 @@
 -- `address_names::is_marked` meets its contract.
 use mathlib.Core.Path.{ap₂, ◌∙◌}
+use native.Mathlib.Omega.{arith}
 use Rattle.octets.specs.Octets.{same_text}
 use Rattle.address_check.specs.Numbers.{mark_in}
 use Rattle.address_names.proofs.NameLaws.{past_walks}
@@ -18,4 +19,4 @@ returns-in_default c =
     let a = c.args in
     c.is_confirming.ensures
     ∙ ap₂ same_text c.without_dot-given.ensures
-    (past_walks a.policy.now a.host.now a.place a.walk c.in_default.in_default-own.rest.0.1 c.in_default.in_default-own.rest.1)
+    (past_walks a.policy.now a.host.now a.place a.walk (λ e. omega arith) (λ e. omega arith))

@@ -1,5 +1,5 @@
 -- `address_names::write_confirming` meets its contract.
-use mathlib.Core.Path.{◌≡◌, refl, ap, sym}
+use mathlib.Core.Path.{◌≡◌, ap, sym}
 use native.Mathlib.Omega.{arith}
 use Prim.Native.Nat.{◌≤◌, ◌+◌}
 use lib.ListN.{length}
@@ -31,7 +31,7 @@ returns-then-out-n c =
     let host = slot a.domains.now a.numbers.now 1 in
     let size : length c.slot-policy.result.now + 16 + length c.slot-host.result.now ≡ length (confirming_name policy host) =
     rw (c.slot-policy.ensures, c.slot-host.ensures) (sym (long_name policy host)) in
-    refuses _ a.out.now (omega (arith, size)) _ size _ refl
+    refuses _ a.out.now (omega (arith, size)) _ size _ c.too_short.ensures
 
 pub returns : goal.returns
 unfolding octets

@@ -11,8 +11,8 @@ returns-then-walk-gt1 c =
     let host = slot a.domains.now a.numbers.now 1 in
     rw (← (past_walks policy host a.place a.walk (λ e. omega arith) (λ e. omega arith))) c.write_confirming.ensures
 
-pub returns : goal.returns
-returns c =
+pub returns-else-walk-gt1 : goal.returns-else-walk-gt1
+returns-else-walk-gt1 c =
     let a = c.args in
     rw (← (on_a_walk a.domains.now a.numbers.now a.place a.walk (omega arith)))
     (rw c.slot-d.ensures at c.write_name.ensures)

@@ -1,4 +1,5 @@
 -- `address_point::read_kind` meets its contract.
+use native.Mathlib.Omega.{arith}
 use Rattle.address_check.specs.code.View.{point_kind_in}
 use Rattle.address_point.proofs.KindLaws.{not_listed}
 use Rattle.address_point.proofs.read_kind.Goals as goal
@@ -33,5 +34,4 @@ returns-in-6 c = rw c.in-6.is
 
 pub returns-in_default : goal.returns-in_default
 returns-in_default c =
-    let no = c.in_default.in_default-own.rest in
-    not_listed c.args.n no.0.0.0.0.0.0.1 no.0.0.0.0.0.1 no.0.0.0.0.1 no.0.0.0.1 no.0.0.1 no.0.1 no.1
+    not_listed c.args.n (λ e. omega arith) (λ e. omega arith) (λ e. omega arith) (λ e. omega arith) (λ e. omega arith) (λ e. omega arith) (λ e. omega arith)

@@ -12,22 +12,22 @@ returns-then-not-is_domain c =
     (start_refused a.c a.policy.now a.entry.now _
     (bad_policy a.policy.now a.entry.now c.without_dot-d.ensures (sym c.is_domain.ensures ∙ c.if-not-is_domain.true)))
 
-pub returns-then-h-eq0 : goal.returns-then-h-eq0
-returns-then-h-eq0 c =
+pub returns-in_default : goal.returns-in_default
+returns-in_default c =
     let a = c.args in
     let good = sym c.is_domain.ensures ∙ c.if-not-is_domain.false in
-    rw c.refused-then-h-eq0.ensures
+    rw c.refused-in_default.ensures
     (start_refused a.c a.policy.now a.entry.now _
-    (bad_entry a.policy.now a.entry.now c.without_dot-d.ensures good _ c.host-h.ensures.0 c.if-h-eq0.true))
+    (bad_entry a.policy.now a.entry.now c.without_dot-d.ensures good c.in_default.ensures))
 
 pub hold-requires : goal.hold-requires
 hold-requires c =
-    (domain_short _ (sym c.is_domain.ensures ∙ c.if-not-is_domain.false), c.host-h.ensures.1)
+    (domain_short _ (sym c.is_domain.ensures ∙ c.if-not-is_domain.false), c.in-Some.ensures.1)
 
 pub returns : goal.returns
 returns c =
     let a = c.args in
     let good = sym c.is_domain.ensures ∙ c.if-not-is_domain.false in
     start_accepted a.c a.policy.now a.entry.now _
-    (good_start a.policy.now a.entry.now c.without_dot-d.ensures good _ c.host-h.ensures.0 c.if-h-eq0.false)
+    (good_start a.policy.now a.entry.now c.without_dot-d.ensures good _ c.in-Some.ensures.0)
     c.hold.result c.hold.ensures

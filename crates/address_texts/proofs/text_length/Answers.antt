@@ -11,19 +11,19 @@ use Rattle.address_texts.proofs.text_length.Goals as goal
 pub loop-rest-init : goal.loop-rest-init
 loop-rest-init c = (omega arith, λ h. (h, omega arith))
 
-pub returns-then-rest-k : goal.returns-then-rest-k
-returns-then-rest-k c =
+pub returns-then-rest-next : goal.returns-then-rest-next
+returns-then-rest-next c =
     let m = c.loop-rest in
-    let k = c.wide-k in
-    (λ h. absurd (not_there (joined 0 m.rest.now) (past_the_end m.rest.now k.result k.ensures.0 (omega arith) (omega arith)) (m.invariant.1 h).0), omega arith)
+    let k = c.from-k in
+    (λ h. absurd (not_there (joined 0 m.rest.now) (past_the_end m.rest.now k.result k.ensures (omega arith) (omega arith)) (m.invariant.1 h).0), omega arith)
 
 pub loop-rest-preserved : goal.loop-rest-preserved
 loop-rest-preserved c =
     let m = c.loop-rest in
-    let k = c.wide-k in (
+    let k = c.from-k in (
       omega arith,
       λ h.
-          let (there, size) = next_size m.rest.now k.result k.ensures.0 (omega arith) (omega arith) (m.invariant.1 h).0 in
+          let (there, size) = next_size m.rest.now k.result k.ensures (omega arith) (omega arith) (m.invariant.1 h).0 in
           (there, omega (arith, size, (m.invariant.1 h).1)),
     )
 

@@ -1,9 +1,7 @@
 -- What code keeps of the alignments of identifiers, and how its answers are read.
 use Rattle.std.specs.Prelude.{List, [], ◌∷◌, false, ◌||◌, ℕ, ◌+◌, ◌*◌}
-use Rattle.std.proofs.Math.Option.{Option, none as nothing, some as just}
 use Rattle.alignment.specs.declared.Outcome.{Outcome}
 use Rattle.alignment.specs.declared.Alignment.{Alignment}
-use Rattle.alignment_settle.specs.declared.Settled.{Settled}
 use Rattle.alignment_settle.specs.declared.Tally.{Tally}
 use Rattle.alignment.specs.Alignments.{Identifier, is_aligned, is_unknown, is_temporary}
 
@@ -38,9 +36,3 @@ tally_with o a t = record {
 unfoldable pub tally_of : List (Identifier × Alignment) → Tally
 tally_of [] = no_tally
 tally_of (w ∷ ws) = tally_with w.0.outcome w.1 (tally_of ws)
-
--- ------------------------------------------------------------------ the code's answers, read
-
-unfoldable pub settled_of : Settled → Option Alignment
-settled_of (Settled.Known a) = just a
-settled_of Settled.Open = nothing

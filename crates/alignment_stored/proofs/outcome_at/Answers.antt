@@ -1,4 +1,5 @@
 -- `alignment_stored::outcome_at` meets its contract.
+use native.Mathlib.Omega.{arith}
 use Rattle.alignment_stored.specs.code.Stored.{outcome_in, outcome_at}
 use Rattle.alignment_stored.proofs.StoredLaws.{not_passing_in}
 use Rattle.alignment_stored.proofs.outcome_at.Goals as goal
@@ -13,4 +14,4 @@ returns-in-2 c = rw (← c.number_at.ensures, c.in-2.is)
 
 pub returns-in_default : goal.returns-in_default
 unfolding outcome_at
-returns-in_default c = rw (← c.number_at.ensures) (not_passing_in c.number_at.result c.in_default.in_default-own.rest.0.1 c.in_default.in_default-own.rest.1)
+returns-in_default c = rw (← c.number_at.ensures) (not_passing_in c.number_at.result (λ e. omega arith) (λ e. omega arith))

@@ -1,6 +1,6 @@
 -- `domain_labels::find_starts` meets its contract. The loop's invariant: the octets from `i` on are passed, one a round, and their labels counted and placed.
 use mathlib.Core.Path.{◌≡◌, ap, sym, ◌∙◌}
-use Prim.Native.Nat.{◌-◌}
+use Prim.Native.Nat.{◌+◌, ◌-◌}
 use native.Mathlib.Omega.{arith}
 use lib.ListN.{length, drop}
 use Rattle.domain.specs.Domain.{label_count}
@@ -22,13 +22,14 @@ loop-i-preserved c =
     elim c.if-s-i-eq46.branch [
       | then-s-i-eq46 w ↦
           let dot = w.if-s-i-eq46.true in
+          let before : m.i - 1 + 1 ≡ m.i = omega arith in
           rw (w.begins-is, w.labels-is) (
             omega arith,
             omega arith,
             omega arith,
             omega (arith, count_at_dot s (m.i - 1) m.i (omega arith) (omega arith) dot),
             elim w.if-labels-le8.branch [
-              | then-labels-le8 v ↦ rw v.begins-is (found_one s m.begins m.labels f m.i (omega arith) (omega arith) dot m.invariant.3 (omega arith) v.if-labels-le8.true)
+              | then-labels-le8 v ↦ rw (v.begins-is, before) (found_one s m.begins m.labels f m.i (omega arith) (omega arith) dot m.invariant.3 (omega arith) v.if-labels-le8.true)
               | else-labels-le8 v ↦ rw v.begins-is (found_late s m.begins m.labels f (omega (arith, v.if-labels-le8.false)))
             ],
           )

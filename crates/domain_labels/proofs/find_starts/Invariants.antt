@@ -8,6 +8,3 @@ use Rattle.domain_labels.proofs.find_starts.Given as goal
 
 abbrev pub invariant-loop-i : goal.invariant-loop-i
 invariant-loop-i l = (l.rounds + l.i ≡ length l.s) × (0 < l.labels) × (l.labels ≤ l.rounds + 1) × (l.labels ≡ label_count (drop l.i l.s)) × Found l.s l.begins l.labels
-
-abbrev pub decreases-loop-i : goal.decreases-loop-i
-decreases-loop-i l = l.i

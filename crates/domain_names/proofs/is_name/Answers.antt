@@ -1,25 +1,37 @@
 -- `domain_names::is_name` meets its contract.
-use mathlib.Core.Path.{sym, ◌∙◌}
-use lib.ListN.{drop}
-use borrow.Author.Tests.{not-true, not-false}
+use mathlib.Core.Path.{◌≡◌, ap, sym, ◌∙◌}
+use mathlib.Core.Bool.{true≢false}
+use Prim.Native.Nat.{ℕ, ◌-◌}
+use lib.ListN.{length, drop, take}
+use borrow.Author.Tests.{lt-leb}
 use Rattle.octets.specs.Octets.{octets}
-use Rattle.octets.proofs.PartLaws.{part_rest}
+use Rattle.octets.proofs.PartLaws.{clipped}
+use Rattle.octets.proofs.LentLaws.{rest_of}
 use Rattle.domain_names.proofs.NameLaws.{name_short, name_parts}
 use Rattle.domain_names.proofs.is_name.Goals as goal
+use Rattle.domain_names.proofs.is_name.Goals.{then-name-ge7, else-name-ge7}
 
-pub returns-then-name-lt7 : goal.returns-then-name-lt7
-returns-then-name-lt7 c =
-    let a = c.args in
-    name_short a.name.now (drop a.at.0 a.s.now) c.if-name-lt7.true
-
-pub returns-then-not-same_text : goal.returns-then-not-same_text
+pub returns-then-same_text : goal.returns-then-same_text
 unfolding octets
-returns-then-not-same_text c =
+returns-then-same_text c =
     let a = c.args in
-    sym (rw (← c.part.ensures) at (name_parts a.name.now (drop a.at.0 a.s.now) c.if-name-lt7.false) ∙ rw (sym c.same_text.ensures ∙ c.if-not-same_text.true))
+    let target : take (length a.s.now - c.clip.result.0) (drop c.clip.result.0 a.s.now) ≡ drop a.at.0 a.s.now =
+    rest_of a.s.now _ ∙ ap (λ (n : ℕ). drop n a.s.now) c.clip.ensures ∙ clipped a.s.now a.at.0
+    in
+    elim c.if-name-ge7.branch [
+      | then-name-ge7 w ↦
+          let front = sym w.same_text.ensures ∙ sym w.value-is ∙ c.if-same_text.true in
+          c.same_text-then-same_text.ensures ∙ rw (target, rest_of a.name.now 7) (sym (name_parts a.name.now (drop a.at.0 a.s.now) w.if-name-ge7.true ∙ rw front))
+      | else-name-ge7 w ↦ absurd (true≢false (sym c.if-same_text.true ∙ w.value-is ∙ lt-leb _ _ w.if-name-ge7.false))
+    ]
 
-pub returns : goal.returns
+pub returns-else-same_text : goal.returns-else-same_text
 unfolding octets
-returns c =
+returns-else-same_text c =
     let a = c.args in
-    c.same_text-2.ensures ∙ sym (rw (← c.part.ensures) at (name_parts a.name.now (drop a.at.0 a.s.now) c.if-name-lt7.false) ∙ rw (sym c.same_text.ensures ∙ c.if-not-same_text.false, c.part-rest.ensures, part_rest a.name.now 7, c.part-2.ensures, part_rest a.s.now a.at.0))
+    elim c.if-name-ge7.branch [
+      | then-name-ge7 w ↦
+          let front = sym w.same_text.ensures ∙ sym w.value-is ∙ c.if-same_text.false in
+          c.if-same_text.false ∙ sym (name_parts a.name.now (drop a.at.0 a.s.now) w.if-name-ge7.true ∙ rw front)
+      | else-name-ge7 w ↦ c.if-same_text.false ∙ name_short a.name.now (drop a.at.0 a.s.now) w.if-name-ge7.false
+    ]

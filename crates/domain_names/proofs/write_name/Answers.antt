@@ -1,5 +1,4 @@
 -- `domain_names::write_name` meets its contract.
-use mathlib.Core.Path.{refl}
 use Rattle.octets.proofs.LentLaws.{refuses}
 use Rattle.octets.specs.Octets.{octets}
 use Rattle.domain_names.proofs.NameLaws.{name_size, writes_name}
@@ -10,7 +9,7 @@ pub returns-then-out-n : goal.returns-then-out-n
 returns-then-out-n c =
     let a = c.args in
     let size = name_size a.s.now a.at.0 c.clip-from.result.0 c.clip-from.ensures in
-    refuses _ a.out.now (omega arith) _ size _ refl
+    refuses _ a.out.now (omega arith) _ size _ c.too_short.ensures
 
 pub returns : goal.returns
 unfolding octets

@@ -8,12 +8,12 @@ use Rattle.domain_rule.proofs.PlainLaws.{no_bad}
 use Rattle.domain_rule.proofs.TableLaws.{classes_from, all_classes}
 use Rattle.domain_rule.proofs.check.Goals as goal
 
-pub scan-scanned-requires : goal.scan-scanned-requires
+pub scan-requires : goal.scan-requires
 unfolding class_code classes_from domain_computes
-scan-scanned-requires c = (all_classes, omega arith)
+scan-requires c = (all_classes, omega arith)
 
-pub returns : goal.returns
-returns c =
+pub returns-in-Some : goal.returns-in-Some
+returns-in-Some c =
     let s = c.args.s.now in
-    let found = c.scan-scanned.ensures (omega arith) in
-    good_domain s (no_bad 0 (labels s) found.0 (c.is_short.ensures (c.if-not-is_short.false))) (omega arith) _ found.1
+    let found = c.scan.ensures c.in-Some.labels c.in-Some.is in
+    good_domain s (no_bad 0 (labels s) found.0 (c.is_short.ensures c.if-is_short.true)) (omega arith) _ found.1

@@ -1,6 +1,5 @@
 -- `domain_rule::is_short` meets its contract. The loop's invariant: if no run was long so far, the labels from `i` on are short, the first of `run` octets.
 use mathlib.Core.Path.{◌≡◌, refl}
-use Prim.Native.Nat.{◌-◌}
 use native.Mathlib.Omega.{arith}
 use borrow.Author.Tests.{eq-eqb, ne_eqb, eqb-true}
 use lib.ListN.{drop}
@@ -16,9 +15,6 @@ pub loop-i-init : goal.loop-i-init
 loop-i-init c =
     let s = c.args.s.now in
     (omega arith, omega arith, omega arith, λ e. (omega arith, rw (drop-length s) (short_end 0 refl)))
-
-pub overflow_add-over : goal.overflow_add-over
-overflow_add-over c = elim c.if-s-i-eq46.branch [ then-s-i-eq46 w ↦ omega (arith, c.requires) | else-s-i-eq46 w ↦ omega (arith, c.requires) ]
 
 pub loop-i-preserved : goal.loop-i-preserved
 loop-i-preserved c =

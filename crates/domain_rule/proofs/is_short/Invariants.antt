@@ -7,6 +7,3 @@ use Rattle.domain_rule.proofs.is_short.Given as goal
 
 abbrev pub invariant-loop-i : goal.invariant-loop-i
 invariant-loop-i l = (l.i ≤ length l.s) × (l.run ≤ length l.s - l.i) × (l.over ≤ 253 * (length l.s - l.i)) × (l.over ≡ 0 → (l.run ≤ 63) × Short (drop l.i l.s) l.run)
-
-abbrev pub decreases-loop-i : goal.decreases-loop-i
-decreases-loop-i l = l.i

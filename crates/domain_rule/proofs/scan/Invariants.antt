@@ -7,6 +7,3 @@ use Rattle.domain_rule.proofs.scan.Given as goal
 
 abbrev pub invariant-loop-i : goal.invariant-loop-i
 invariant-loop-i l = (l.i ≤ length l.s) × (l.after ≤ 2) × (l.wrong ≤ 2 * (length l.s - l.i)) × (l.dots ≤ 2 * (length l.s - l.i)) × (l.wrong ≡ 0 → Plain (drop l.i l.s) l.after (l.dots + 1))
-
-abbrev pub decreases-loop-i : goal.decreases-loop-i
-decreases-loop-i l = l.i

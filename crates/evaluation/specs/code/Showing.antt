@@ -1,6 +1,5 @@
 -- When what an evaluation keeps shows 01's book.
-use Rattle.std.specs.Prelude.{◌≡◌, true, false}
-use Rattle.std.proofs.Math.Option.{Option, none as nothing, some as just}
+use Rattle.std.specs.Prelude.{◌≡◌, true, false, Option, None, Some}
 use Rattle.lookup.specs.Lookup.{Name, needs}
 use Rattle.verdict_cursor.specs.code.Cursor.{Cursor, stands}
 use Rattle.verdict_cursor.specs.code.CursorClaims.{KeptCursor}
@@ -12,12 +11,12 @@ use Rattle.asking.specs.Asking.{replies}
 
 -- what is kept of a book
 unfoldable pub shows : Book → Option Cursor → Keeps
-shows b o = record { message = just b.message; replies = replies b.run.taken; asked = b.run.asked; at = o }
+shows b o = record { message = Some b.message; replies = replies b.run.taken; asked = b.run.asked; at = o }
 
 -- where what is kept stands beside a book: nowhere until a name was handed out; then where the book stands, at the name asked if one is
 unfoldable pub Beside : Book → Option Cursor → Type 0
-Beside b nothing = b.handed_out ≡ false
-Beside b (just c) = (b.handed_out ≡ true) × KeptCursor (replies b.run.taken) b.message c × ((n : Name) → b.run.asked ≡ just n → stands b.message c ≡ needs n)
+Beside b None = b.handed_out ≡ false
+Beside b (Some c) = (b.handed_out ≡ true) × KeptCursor (replies b.run.taken) b.message c × ((n : Name) → b.run.asked ≡ Some n → stands b.message c ≡ needs n)
 
 pub record Shows (e : Evaluation) (b : Book) : Type 0 where
   pub stands_at : Option Cursor

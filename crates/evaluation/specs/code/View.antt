@@ -1,6 +1,5 @@
 -- What an evaluation keeps, read from its fields. Every evaluation is read, those too that no call can make.
-use Rattle.std.specs.Prelude.{◌≡◌, List, [], Bool, true, false, ℕ, get_or, replicate}
-use Rattle.std.proofs.Math.Option.{Option, none as nothing, some as just}
+use Rattle.std.specs.Prelude.{◌≡◌, List, [], Bool, true, false, ℕ, get_or, replicate, Option, None, Some}
 use Rattle.lookup.specs.Lookup.{Name, Answers}
 use Rattle.txt.specs.declared.Reply.{Reply}
 use Rattle.walk_known.specs.code.Kept.{kept_answers}
@@ -23,11 +22,11 @@ unfoldable pub cursor_now : Evaluation → Cursor
 cursor_now e = cursor_in e.domains e.numbers e.terms e.stored (place_in e.position)
 
 unfoldable pub asked_now : Evaluation → (asked : Bool) → Option Name
-asked_now e false = nothing
+asked_now e false = None
 asked_now e true = needed (stands (message_now e) (cursor_now e))
 
 unfoldable pub handed_view : Evaluation → Keeps
-handed_view e = record { message = just (message_now e); replies = replies_now e; asked = asked_now e e.asked; at = just (cursor_now e) }
+handed_view e = record { message = Some (message_now e); replies = replies_now e; asked = asked_now e e.asked; at = Some (cursor_now e) }
 
 -- before the first step no reply is read, and before an opening nothing
 unfoldable pub view_by : Evaluation → (started handed : Bool) → Keeps
@@ -40,8 +39,8 @@ view e = view_by e e.started e.handed
 
 -- the numbers of what is kept of the walks: none before the first step
 unfoldable pub numbers_kept : Option Cursor → List ℕ
-numbers_kept nothing = []
-numbers_kept (just c) = numbers_of c
+numbers_kept None = []
+numbers_kept (Some c) = numbers_of c
 
 -- an evaluation that stores these numbers, and no others
 unfoldable pub Numbered : Evaluation → Type 0

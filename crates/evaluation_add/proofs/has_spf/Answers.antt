@@ -1,4 +1,4 @@
--- `evaluation_add::has_spf` meets its contract. The loop's invariant: of all identifiers one is SPF's exactly where one of the `more` from `walk` on is.
+-- `evaluation_add::has_spf` meets its contract.
 use mathlib.Core.Path.{◌≡◌, sym, ◌∙◌}
 use mathlib.Core.Bool.{◌||◌}
 use Prim.Native.Nat.{◌+◌, ◌-◌, min}
@@ -13,27 +13,33 @@ use Rattle.evaluation_add.proofs.has_spf.Goals.{After-kind_at}
 
 -- all of them, after the next one
 after : (v : After-kind_at) →
-    let m = v.loop-more in
+    let m = v.loop-walk in
     let a = v.args in
     (domains : Octets) → any_spf (stored_identifiers domains a.numbers.now 1 (min a.count 16))
-    ≡ (is_spf v.kind_at.result || any_spf (stored_identifiers domains a.numbers.now (m.walk + 1) (m.more - 1)))
+    ≡ (is_spf v.kind_at.result || any_spf (stored_identifiers domains a.numbers.now (m.walk + 1) (min a.count 16 + 1 - m.walk - 1)))
 unfolding any identifier_at
 after v domains =
-    let m = v.loop-more in
+    let m = v.loop-walk in
     let a = v.args in
-    m.invariant.1 domains ∙ rw (next_identifier domains a.numbers.now m.walk m.more (omega arith), v.kind_at.ensures)
+    m.invariant domains ∙ rw (next_identifier domains a.numbers.now m.walk (min a.count 16 + 1 - m.walk) (omega (arith, v.min-walk-end.ensures)), v.kind_at.ensures)
 
-pub loop-more-init : goal.loop-more-init
-loop-more-init c = (omega (arith, c.smaller-more.ensures), λ domains. rw (← c.smaller-more.ensures))
+pub loop-walk-init : goal.loop-walk-init
+loop-walk-init c = λ domains.
+    let all : min c.args.count 16 + 1 - 1 ≡ min c.args.count 16 = omega arith in
+    rw all
 
 pub returns-in-Spf : goal.returns-in-Spf
 unfolding is_spf
 returns-in-Spf c domains = sym (rw c.in-Spf.is at (after (goal.at.returns-in-Spf c).After-kind_at domains))
 
-pub loop-more-preserved : goal.loop-more-preserved
+pub loop-walk-preserved : goal.loop-walk-preserved
 unfolding is_spf
-loop-more-preserved c = (omega arith, λ domains. rw c.in_default.is at (after (goal.at.loop-more-preserved c).After-kind_at domains))
+loop-walk-preserved c = λ domains.
+    let left : min c.args.count 16 + 1 - c.loop-walk.walk - 1 ≡ min c.args.count 16 + 1 - (c.loop-walk.walk + 1) = omega arith in
+    rw (← left) (rw c.in_default.is at (after (goal.at.loop-walk-preserved c).After-kind_at domains))
 
 pub returns : goal.returns
 unfolding any stored_identifiers
-returns c domains = let e : c.loop-more.more ≡ 0 = omega arith in sym (rw e at (c.loop-more.invariant.1 domains))
+returns c domains =
+    let none : min c.args.count 16 + 1 - c.loop-walk.walk ≡ 0 = omega (arith, c.min-walk-end.ensures) in
+    sym (rw none at (c.loop-walk.invariant domains))

@@ -1,7 +1,7 @@
 -- `evaluation_answer::answer` meets its contract.
+use Rattle.std.specs.Prelude.{Some}
 use native.Mathlib.Omega.{arith}
 use mathlib.Core.Path.{◌≡◌, ap, sym, ◌∙◌}
-use mathlib.Core.Option.{some as just}
 use lib.ListN.{length}
 use Rattle.verdict_cursor.specs.code.Cursor.{stands, needed}
 use Rattle.verdict_ahead.specs.code.Waits.{waiting_name}
@@ -10,7 +10,7 @@ use Rattle.evaluation.specs.GivenBack.{message_now, marked}
 use Rattle.evaluation_keep.specs.code.Asking.{answered}
 use Rattle.evaluation_keep.proofs.AnswerLaws.{answered_in, accepted_few, answer_not_now, answer_refused, answer_accepted}
 use Rattle.evaluation_answer.proofs.answer.Goals as goal
-use Rattle.evaluation_answer.proofs.answer.Goals.{After-find_asked, In-For, Start}
+use Rattle.evaluation_answer.proofs.answer.Goals.{After-find_asked, In-Some, Start}
 
 -- what the answer is for
 named : (v : After-find_asked) →
@@ -22,29 +22,29 @@ named v =
     v.find_asked.ensures a.e.stored ∙ ap (λ b. answered b a.name.now (needed (stands (message_now a.e) (cursor_now a.e)))) v.is_live-live.ensures
 
 -- and where it is the name now asked
-now_asked : (w : In-For) →
+now_asked : (w : In-Some) →
     let a = w.args in
-    answered_in a.e a.name.now ≡ just (marked a.e w.in-For.walk w.in-For.place)
+    answered_in a.e a.name.now ≡ Some (marked a.e w.in-Some.asked.walk w.in-Some.asked.place)
 unfolding waiting_name marked message_now cursor_now
 now_asked w =
     let a = w.args in
-    sym (rw w.in-For.is at (w.find_asked.ensures a.e.stored ∙ ap (λ b. answered b a.name.now (needed (stands (message_now a.e) (cursor_now a.e)))) w.is_live-live.ensures))
+    sym (rw w.in-Some.is at (w.find_asked.ensures a.e.stored ∙ ap (λ b. answered b a.name.now (needed (stands (message_now a.e) (cursor_now a.e)))) w.is_live-live.ensures))
 
 kept_full : (k : Start) → length k.args.e.kept ≡ 408
 kept_full k = omega arith
 
-pub returns-in-Nothing : goal.returns-in-Nothing
+pub returns-in-None : goal.returns-in-None
 unfolding waiting_name
-returns-in-Nothing c =
+returns-in-None c =
     let a = c.args in
-    rw c.refused.ensures (answer_not_now a.e (kept_full (goal.at.returns-in-Nothing c).Start) a.name.now a.status a.bytes.now a.scratch.now (sym (rw c.in-Nothing.is at (named (goal.at.returns-in-Nothing c).After-find_asked))))
+    rw c.refused.ensures (answer_not_now a.e (kept_full (goal.at.returns-in-None c).Start) a.name.now a.status a.bytes.now a.scratch.now (sym (rw c.in-None.is at (named (goal.at.returns-in-None c).After-find_asked))))
 
-pub returns-in-Refused : goal.returns-in-Refused
-returns-in-Refused c =
+pub returns-in-Err : goal.returns-in-Err
+returns-in-Err c =
     let a = c.args in
-    rw c.refused-in-Refused.ensures (answer_refused a.e (kept_full (goal.at.returns-in-Refused c).Start) a.name.now a.status a.bytes.now a.scratch.now (now_asked (goal.at.returns-in-Refused c).In-For) _ c.in-Refused.f (rw c.in-Refused.is at c.take_answer.ensures))
+    rw c.refused-in-Err.ensures (answer_refused a.e (kept_full (goal.at.returns-in-Err c).Start) a.name.now a.status a.bytes.now a.scratch.now (now_asked (goal.at.returns-in-Err c).In-Some) _ c.in-Err.f (rw c.in-Err.is at c.take_answer.ensures))
 
-pub returns-in-Reply : goal.returns-in-Reply
-returns-in-Reply c =
+pub returns-in-Ok : goal.returns-in-Ok
+returns-in-Ok c =
     let a = c.args in
-    answer_accepted a.e (kept_full (goal.at.returns-in-Reply c).Start) a.name.now a.status a.bytes.now a.scratch.now c.in-For.walk c.in-For.place (now_asked (goal.at.returns-in-Reply c).In-For) _ c.in-Reply.r c.accept.result (c.accept.ensures.accepts (accepted_few a.e a.name.now (now_asked (goal.at.returns-in-Reply c).In-For))) (rw c.in-Reply.is at c.take_answer.ensures)
+    answer_accepted a.e (kept_full (goal.at.returns-in-Ok c).Start) a.name.now a.status a.bytes.now a.scratch.now c.in-Some.asked.walk c.in-Some.asked.place (now_asked (goal.at.returns-in-Ok c).In-Some) _ c.in-Ok.r c.accept.result (c.accept.ensures.accepts (accepted_few a.e a.name.now (now_asked (goal.at.returns-in-Ok c).In-Some))) (rw c.in-Ok.is at c.take_answer.ensures)

@@ -3,16 +3,16 @@ use native.Mathlib.Omega.{arith}
 use mathlib.Core.Path.{sym, ◌∙◌}
 use Rattle.evaluation_field.proofs.FieldLaws.{not_judged, none_given, field_written}
 use Rattle.evaluation_field.proofs.write_methods.Goals as goal
+use Rattle.evaluation_field.proofs.write_methods.Goals.{then-not-is_pass_or_fail-via-then-not-is_pass_or_fail, then-not-is_pass_or_fail-via-else-not-is_pass_or_fail+then-t-eq0}
 
 pub returns-then-not-is_pass_or_fail : goal.returns-then-not-is_pass_or_fail
 returns-then-not-is_pass_or_fail c = λ domains.
     let a = c.args in
-    rw c.refuse.ensures (not_judged domains a.numbers.now a.t a.j a.out.now (sym c.is_pass_or_fail.ensures ∙ c.if-not-is_pass_or_fail.true))
-
-pub returns-then-t-eq0 : goal.returns-then-t-eq0
-returns-then-t-eq0 c = λ domains.
-    let a = c.args in
-    rw c.refuse-then-t-eq0.ensures (none_given domains a.numbers.now a.t a.j a.out.now c.if-t-eq0.true)
+    rw c.refuse.ensures
+    (elim c.then-not-is_pass_or_fail.branch [
+      | then-not-is_pass_or_fail-via-then-not-is_pass_or_fail w ↦ not_judged domains a.numbers.now a.t a.j a.out.now (sym c.is_pass_or_fail.ensures ∙ w.if-not-is_pass_or_fail.true)
+      | then-not-is_pass_or_fail-via-else-not-is_pass_or_fail+then-t-eq0 w ↦ none_given domains a.numbers.now a.t a.j a.out.now w.if-t-eq0.true
+    ])
 
 pub returns : goal.returns
 returns c = λ domains.

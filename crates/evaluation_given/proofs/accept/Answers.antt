@@ -4,4 +4,4 @@ use Rattle.evaluation_given.proofs.accept.Goals as goal
 
 pub returns : goal.returns
 unfolding accepted_numbers
-returns c = rw c.blank-given.ensures
+returns c = rw c.blank.ensures

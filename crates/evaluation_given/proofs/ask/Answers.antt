@@ -4,4 +4,4 @@ use Rattle.evaluation_given.proofs.ask.Goals as goal
 
 pub returns : goal.returns
 unfolding ask_numbers
-returns c = rw c.blank-given.ensures
+returns c = rw c.blank.ensures

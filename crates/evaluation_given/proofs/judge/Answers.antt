@@ -4,4 +4,4 @@ use Rattle.evaluation_given.proofs.judge.Goals as goal
 
 pub returns : goal.returns
 unfolding judged_numbers
-returns c = rw (c.blank-given.ensures, c.number_verdict-verdict.ensures)
+returns c = rw (c.blank.ensures, c.number_verdict.ensures)

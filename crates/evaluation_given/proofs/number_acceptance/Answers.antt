@@ -2,10 +2,10 @@
 use Rattle.evaluation_numbers.specs.Numbers.{acceptance_numbers}
 use Rattle.evaluation_given.proofs.number_acceptance.Goals as goal
 
-pub returns-in-Accepted : goal.returns-in-Accepted
+pub returns-in-Ok : goal.returns-in-Ok
 unfolding acceptance_numbers
-returns-in-Accepted c = rw c.in-Accepted.is c.accept.ensures
+returns-in-Ok c = rw c.in-Ok.is c.accept.ensures
 
-pub returns-in-Refused : goal.returns-in-Refused
+pub returns-in-Err : goal.returns-in-Err
 unfolding acceptance_numbers
-returns-in-Refused c = rw c.in-Refused.is c.refuse.ensures
+returns-in-Err c = rw c.in-Err.is c.refuse.ensures

@@ -2,10 +2,10 @@
 use Rattle.evaluation_numbers.specs.Numbers.{found_numbers}
 use Rattle.evaluation_given.proofs.number_found.Goals as goal
 
-pub returns-in-Verdict : goal.returns-in-Verdict
+pub returns-in-Ok : goal.returns-in-Ok
 unfolding found_numbers
-returns-in-Verdict c = rw c.in-Verdict.is
+returns-in-Ok c = rw c.in-Ok.is
 
-pub returns-in-Refused : goal.returns-in-Refused
+pub returns-in-Err : goal.returns-in-Err
 unfolding found_numbers
-returns-in-Refused c = rw c.in-Refused.is
+returns-in-Err c = rw c.in-Err.is

@@ -2,10 +2,10 @@
 use Rattle.evaluation_numbers.specs.Numbers.{resulting_numbers}
 use Rattle.evaluation_given.proofs.number_resulting.Goals as goal
 
-pub returns-in-Verdict : goal.returns-in-Verdict
+pub returns-in-Ok : goal.returns-in-Ok
 unfolding resulting_numbers
-returns-in-Verdict c = rw c.in-Verdict.is c.judge.ensures
+returns-in-Ok c = rw c.in-Ok.is c.judge.ensures
 
-pub returns-in-Refused : goal.returns-in-Refused
+pub returns-in-Err : goal.returns-in-Err
 unfolding resulting_numbers
-returns-in-Refused c = rw c.in-Refused.is c.refuse.ensures
+returns-in-Err c = rw c.in-Err.is c.refuse.ensures

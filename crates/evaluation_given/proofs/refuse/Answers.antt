@@ -4,4 +4,4 @@ use Rattle.evaluation_given.proofs.refuse.Goals as goal
 
 pub returns : goal.returns
 unfolding refused_numbers
-returns c = rw c.blank-given.ensures
+returns c = rw c.blank.ensures

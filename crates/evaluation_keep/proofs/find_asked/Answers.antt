@@ -1,10 +1,9 @@
 -- `evaluation_keep::find_asked` meets its contract.
 use mathlib.Core.Path.{◌≡◌}
 use mathlib.Core.List.{List}
-use mathlib.Core.Option.{none as nothing, some as just}
 use Prim.Native.Nat.{ℕ}
 use lib.ListN.{drop}
-use Rattle.std.specs.Prelude.{if◌then◌else◌}
+use Rattle.std.specs.Prelude.{if◌then◌else◌, None, Some}
 use Rattle.domain.specs.Domain.{asked_name}
 use Rattle.alignment_stored.specs.code.Stored.{slot}
 use Rattle.verdict_judgement.specs.code.Judging.{stored_message}
@@ -20,14 +19,14 @@ use Rattle.evaluation_keep.proofs.find_asked.Goals.{After-is_name}
 named : (v : After-is_name) (stored : List ℕ) →
     let a = v.args in
     answered a.live a.name.now (needed (stands (stored_message a.domains.now a.numbers.now a.t) (cursor_in a.domains.now a.numbers.now a.t stored (place_in a.at))))
-    ≡ (if v.is_name.result then just (asked_name (drop v.in-For.place.0 (slot a.domains.now a.numbers.now v.in-For.walk))) else nothing)
+    ≡ (if v.is_name.result then Some (asked_name (drop v.in-Some.asked.place.0 (slot a.domains.now a.numbers.now v.in-Some.asked.walk))) else None)
 unfolding answered waiting_name
 named v stored =
     let a = v.args in
     rw (
       v.if-not-live.false,
-      ← (v.find_target-target.ensures.name a.domains.now a.numbers.now stored),
-      v.in-For.is,
+      ← (v.find_target.ensures.name a.domains.now a.numbers.now stored),
+      v.in-Some.is,
       v.is_name.ensures,
       v.without_dot-given.ensures,
       v.slot-d.ensures,
@@ -37,16 +36,16 @@ pub returns-then-not-live : goal.returns-then-not-live
 unfolding answered waiting_name
 returns-then-not-live c stored = rw (c.if-not-live.true)
 
-pub returns-then-not-is_name : goal.returns-then-not-is_name
+pub returns-else-is_name : goal.returns-else-is_name
 unfolding waiting_name
-returns-then-not-is_name c stored = rw (named (goal.at.returns-then-not-is_name c).After-is_name stored, c.if-not-is_name.true)
+returns-else-is_name c stored = rw (named (goal.at.returns-else-is_name c).After-is_name stored, c.if-is_name.false)
 
-pub returns-in-Nothing : goal.returns-in-Nothing
+pub returns-in-None : goal.returns-in-None
 unfolding answered waiting_name
-returns-in-Nothing c stored =
+returns-in-None c stored =
     let a = c.args in
-    rw (c.if-not-live.false, ← (c.find_target-target.ensures.name a.domains.now a.numbers.now stored), c.in-Nothing.is)
+    rw (c.if-not-live.false, ← (c.find_target.ensures.name a.domains.now a.numbers.now stored), c.in-None.is)
 
-pub returns-else-not-is_name : goal.returns-else-not-is_name
+pub returns-then-is_name : goal.returns-then-is_name
 unfolding waiting_name
-returns-else-not-is_name c stored = rw (named (goal.at.returns-else-not-is_name c).After-is_name stored, c.if-not-is_name.false)
+returns-then-is_name c stored = rw (named (goal.at.returns-then-is_name c).After-is_name stored, c.if-is_name.true)

@@ -1,7 +1,6 @@
 -- `evaluation_open::hold` meets its contract.
 use mathlib.Core.Path.{refl}
 use native.Mathlib.Omega.{arith}
-use lib.ListN.{length-map}
 use Rattle.evaluation.specs.GivenBack.{message_now}
 use Rattle.evaluation_open.proofs.SlotLaws.{held_message}
 use Rattle.evaluation_open.proofs.hold.Goals as goal

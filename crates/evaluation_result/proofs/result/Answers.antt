@@ -8,7 +8,7 @@ use Rattle.evaluation.specs.code.View.{cursor_now}
 use Rattle.evaluation.specs.GivenBack.{message_now}
 use Rattle.evaluation.proofs.CallLaws.{result_not_started, result_not_handed, result_missing, result_verdict}
 use Rattle.evaluation_result.proofs.result.Goals as goal
-use Rattle.evaluation_result.proofs.result.Goals.{After-judge}
+use Rattle.evaluation_result.proofs.result.Goals.{After-judge, then-not-e-via-then-not-e, then-not-e-via-else-not-e+then-not-e-2}
 
 -- where the evaluation stands
 stood : (v : After-judge) →
@@ -18,11 +18,12 @@ unfolding message_now cursor_now
 stood v = v.judge.ensures.standing
 
 pub returns-then-not-e : goal.returns-then-not-e
-returns-then-not-e c = rw c.refuse.ensures (result_not_started c.args.e (c.if-not-e.true))
-
-pub returns-then-not-e-2 : goal.returns-then-not-e-2
-returns-then-not-e-2 c =
-    rw c.refuse-then-not-e-2.ensures (result_not_handed c.args.e (c.if-not-e.false) (c.if-not-e-2.true))
+returns-then-not-e c =
+    rw c.refuse.ensures
+    (elim c.then-not-e.branch [
+      | then-not-e-via-then-not-e w ↦ result_not_started c.args.e w.if-not-e.true
+      | then-not-e-via-else-not-e+then-not-e-2 w ↦ result_not_handed c.args.e w.if-not-e.false w.if-not-e-2.true
+    ])
 
 pub returns-in-Missing : goal.returns-in-Missing
 returns-in-Missing c =
@@ -32,4 +33,4 @@ pub returns-in-Done : goal.returns-in-Done
 unfolding message_now JudgedFixed
 returns-in-Done c =
     let full : length c.args.e.kept ≡ 408 = omega arith in
-    result_verdict c.args.e (c.if-not-e.false) (c.if-not-e-2.false) c.in-Done.judgement (rw c.in-Done.is at (stood (goal.at.returns-in-Done c).After-judge)) (rw c.in-Done.is at c.judge.ensures.fixed) full c.count_answers-count.result c.count_answers-count.ensures
+    result_verdict c.args.e (c.if-not-e.false) (c.if-not-e-2.false) c.in-Done.judgement (rw c.in-Done.is at (stood (goal.at.returns-in-Done c).After-judge)) (rw c.in-Done.is at c.judge.ensures.fixed) full c.count_answers.result c.count_answers.ensures

@@ -1,6 +1,5 @@
 -- What is read of an Identity-Alignment field, by its grammar. What it finds is claimed of every text, so nobody has to believe this.
-use Rattle.std.specs.Prelude.{List, [], ◌∷◌, ◌++◌, ℕ, ◌-◌, ltb, if◌then◌else◌}
-use Rattle.std.proofs.Math.Option.{Option, none as nothing, some as just}
+use Rattle.std.specs.Prelude.{List, [], ◌∷◌, ◌++◌, ℕ, ◌-◌, ltb, if◌then◌else◌, Option, None, Some}
 use Rattle.octets.specs.Octets.{Octets, is_nothing}
 use Rattle.octets.specs.Refusing.{OrRefused, ok, not_ok, refusal}
 use Rattle.octets.specs.declared.Refusal.{Refusal}
@@ -15,13 +14,13 @@ naming n m = heading n then many (dmarc_method then comma n) then m then many (c
 
 -- a refusal, where there is a place
 unfoldable pub at_place : (number : ℕ) → Option ℕ → List Refusal
-at_place number nothing = []
-at_place number (just place) = refusal number place ∷ []
+at_place number None = []
+at_place number (Some place) = refusal number place ∷ []
 
 -- where a word of n octets begins, by where it ends
 unfoldable pub begin_of_word : ℕ → Option ℕ → Option ℕ
-begin_of_word n nothing = nothing
-begin_of_word n (just end) = just (end - n)
+begin_of_word n None = None
+begin_of_word n (Some end) = Some (end - n)
 
 -- "24 not the grammar, repeats and depth aside, at the first octet it can't have there (the length if the text ends early)"
 unfoldable pub outside_grammar : Octets → Option ℕ
@@ -40,11 +39,11 @@ refusals s = at_place 24 (outside_grammar s) ++ at_place 25 (too_deep s) ++ at_p
 
 -- "the earliest is given"; of two at one place the first, so no 25 where the grammar ends anyway
 unfoldable pub earlier : Refusal → Option Refusal → Option Refusal
-earlier r nothing = just r
-earlier r (just q) = if ltb q.place r.place then just q else just r
+earlier r None = Some r
+earlier r (Some q) = if ltb q.place r.place then Some q else Some r
 
 unfoldable pub earliest : List Refusal → Option Refusal
-earliest [] = nothing
+earliest [] = None
 earliest (r ∷ rs) = earlier r (earliest rs)
 
 -- "read as the methods it names"
@@ -52,4 +51,4 @@ unfoldable pub methods_named : Octets → NamedMethods
 methods_named s = record { dkim = is_nothing (fault (naming 8 dkim) s); spf = is_nothing (fault (naming 8 spf) s) }
 
 unfoldable pub read_field : Octets → OrRefused NamedMethods
-read_field s = elim (earliest (refusals s)) [ nothing ↦ ok (methods_named s) | just r ↦ not_ok r ]
+read_field s = elim (earliest (refusals s)) [ None ↦ ok (methods_named s) | Some r ↦ not_ok r ]

@@ -17,8 +17,8 @@ returns-then-was_wrong c =
     let a = c.args in
     sym (wrong_turn a.side a.b a.depth a.dkim a.spf a.x (sym c.is_ninth.ensures ∙ c.if-is_ninth.false) (rw c.read_between-state.ensures at (sym c.was_wrong.ensures ∙ c.if-was_wrong.true)))
 
-pub returns : goal.returns
+pub returns-else-was_wrong : goal.returns-else-was_wrong
 unfolding reader
-returns c =
+returns-else-was_wrong c =
     let a = c.args in
     rw c.read_between-state.ensures (sym (on_turn a.side a.b a.depth a.dkim a.spf a.x (sym c.is_ninth.ensures ∙ c.if-is_ninth.false) (rw c.read_between-state.ensures at (sym c.was_wrong.ensures ∙ c.if-was_wrong.false))))

@@ -2,6 +2,7 @@
 use Rattle.std.specs.Prelude.{[], ◌∷◌, Bool, true, false, ◌&&◌, ◌||◌, not, ℕ, suc, ◌+◌, ◌-◌, eqb, leb, length, drop, if◌then◌else◌}
 use Rattle.octets.specs.Octets.{Octets, octets, is_empty, between, lower_octet, is_blank}
 use Rattle.octets.specs.Refusing.{OrRefused, ok, not_ok, refusal}
+use Rattle.octets.specs.declared.Refusal.{Refusal}
 use Rattle.field.specs.declared.NamedMethods.{NamedMethods}
 use Rattle.field_states.specs.declared.Word.{Word}
 use Rattle.field_states.specs.declared.Side.{Side}
@@ -9,7 +10,8 @@ use Rattle.field_states.specs.declared.Blanks.{Blanks}
 use Rattle.field_states.specs.declared.State.{State}
 use Rattle.field_states.specs.declared.Reader.{Reader}
 use Rattle.field_states.specs.declared.Spelled.{Spelled}
-use Rattle.field_states.specs.declared.Turn.{Turn}
+use Rattle.field_states.specs.declared.Misread.{Misread}
+use Rattle.std.specs.Prelude.{Result, Ok, Err}
 
 -- ------------------------------------------------------------------ words
 
@@ -198,12 +200,12 @@ unfoldable pub word_size : State → ℕ
 word_size (State.Spelling w k) = length (word_text w)
 word_size (State.Between side b depth) = 0
 
-unfoldable pub turn : Reader → ℕ → Turn
+unfoldable pub turn : Reader → ℕ → Result Reader Misread
 turn r x =
-    if ninth r.state x then Turn.TooDeep
-    else if is_wrong (step r x).state then Turn.Wrong
-    else if again r.state r.dkim r.spf x then Turn.Again (word_size r.state)
-    else Turn.On (step r x)
+    if ninth r.state x then (Err Misread.TooDeep)
+    else if is_wrong (step r x).state then (Err Misread.Wrong)
+    else if again r.state r.dkim r.spf x then Err (Misread.Again (word_size r.state))
+    else Ok (step r x)
 
 -- ------------------------------------------------------------------ a whole text
 
@@ -225,14 +227,15 @@ ends (State.Between side b depth) = is_ended b (closes side depth)
 unfoldable pub ended : (at : ℕ) → Reader → OrRefused NamedMethods
 ended at r = if ends r.state then ok (record { dkim = r.dkim; spf = r.spf }) else not_ok (refusal 24 at)
 
+-- the refusal for an octet at a place
+unfoldable pub misread : (at : ℕ) → Misread → Refusal
+misread at Misread.Wrong = refusal 24 at
+misread at Misread.TooDeep = refusal 25 at
+misread at (Misread.Again n) = refusal 26 (at + 1 - n)
+
 unfoldable pub run_reader : (at : ℕ) → Reader → Octets → OrRefused NamedMethods
 run_reader at r [] = ended at r
-run_reader at r (x ∷ s) = elim (turn r x) [
-  | Turn.On q ↦ run_reader (suc at) q s
-  | Turn.Wrong ↦ not_ok (refusal 24 at)
-  | Turn.TooDeep ↦ not_ok (refusal 25 at)
-  | Turn.Again n ↦ not_ok (refusal 26 (at + 1 - n))
-]
+run_reader at r (x ∷ s) = elim (turn r x) [ Ok q ↦ run_reader (suc at) q s | Err m ↦ not_ok (misread at m) ]
 
 unfoldable pub start : Reader
 start = reader (State.Spelling Word.Name 0) false false

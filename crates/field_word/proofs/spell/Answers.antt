@@ -1,23 +1,39 @@
 -- `field_word::spell` meets its contract: by the octet that the word has there, if any.
-use mathlib.Core.Path.{sym, ◌∙◌}
-use Rattle.field_word.proofs.SpellLaws.{spell_over, spell_other, spell_further, spell_whole}
-use native.Mathlib.Omega.{arith}
+use Rattle.std.proofs.Common.{◌≡◌, sym, ◌∙◌, arith, get_or}
+use Rattle.std.proofs.lemmas.Bool.Decides.{nat_tests}
+use Rattle.field_word.proofs.SpellLaws.{lowered_octet, spell_over, spell_other, spell_further, spell_whole}
 use Rattle.field_word.proofs.spell.Goals as goal
+use Rattle.field_word.proofs.spell.Goals.{then-word-k, else-word-k}
 
-pub returns-then-word-k : goal.returns-then-word-k
-returns-then-word-k c = let a = c.args in sym (spell_over a.word.now a.k a.x c.if-word-k.true)
-
-pub returns-then-lower_octet-word : goal.returns-then-lower_octet-word
-returns-then-lower_octet-word c =
+pub returns-then-to_ascii_lowercase-word : goal.returns-then-to_ascii_lowercase-word
+returns-then-to_ascii_lowercase-word c =
     let a = c.args in
-    sym (spell_other a.word.now a.k a.x (omega arith) (λ e. c.if-lower_octet-word.true (c.lower_octet.ensures ∙ e)))
+    let word = a.word.now in
+    elim c.if-word-k.branch [
+      | then-word-k w ↦ sym (spell_over word a.k a.x w.if-word-k.true)
+      | else-word-k w ↦
+          let other : w.to_ascii_lowercase.result ≡ get_or word a.k 0 → ⊥ = grind (arith, nat_tests) in
+          sym (spell_other word a.k a.x (omega arith) (λ e. other (w.to_ascii_lowercase.ensures.value ∙ lowered_octet a.x ∙ e)))
+    ]
 
 pub returns-then-k-word : goal.returns-then-k-word
 returns-then-k-word c =
     let a = c.args in
-    sym (spell_further a.word.now a.k a.x (omega arith) (sym c.lower_octet.ensures ∙ c.if-lower_octet-word.false) c.if-k-word.true)
+    let word = a.word.now in
+    elim c.if-word-k.branch [
+      | then-word-k w ↦ absurd (grind (arith, nat_tests))
+      | else-word-k w ↦
+          let same : w.to_ascii_lowercase.result ≡ get_or word a.k 0 = grind (arith, nat_tests) in
+          sym (spell_further word a.k a.x (omega arith) (sym (lowered_octet a.x) ∙ sym w.to_ascii_lowercase.ensures.value ∙ same) c.if-k-word.true)
+    ]
 
-pub returns : goal.returns
-returns c =
+pub returns-else-k-word : goal.returns-else-k-word
+returns-else-k-word c =
     let a = c.args in
-    sym (spell_whole a.word.now a.k a.x (omega arith) (sym c.lower_octet.ensures ∙ c.if-lower_octet-word.false) c.if-k-word.false)
+    let word = a.word.now in
+    elim c.if-word-k.branch [
+      | then-word-k w ↦ absurd (grind (arith, nat_tests))
+      | else-word-k w ↦
+          let same : w.to_ascii_lowercase.result ≡ get_or word a.k 0 = grind (arith, nat_tests) in
+          sym (spell_whole word a.k a.x (omega arith) (sym (lowered_octet a.x) ∙ sym w.to_ascii_lowercase.ensures.value ∙ same) c.if-k-word.false)
+    ]

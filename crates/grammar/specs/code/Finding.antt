@@ -1,6 +1,5 @@
 -- Texts of a grammar, and the first octet that none of its texts can have, found octet by octet.
-use Rattle.std.specs.Prelude.{◌≡◌, [], ◌∷◌, Bool, true, false, ℕ, suc, ◌≤◌, ◌<◌, leb, length, take, if◌then◌else◌}
-use Rattle.std.proofs.Math.Option.{Option, none as nothing, some as just}
+use Rattle.std.specs.Prelude.{◌≡◌, [], ◌∷◌, Bool, true, false, ℕ, suc, ◌≤◌, ◌<◌, leb, length, take, if◌then◌else◌, Option, None, Some}
 use Rattle.octets.specs.Octets.{Octets, between}
 use Rattle.grammar.specs.Grammar.{Grammar, none, empty, range, ◌then◌, ◌or◌, many, Text, Viable, Fault}
 
@@ -54,16 +53,16 @@ following x (many a) = following x a and_then many a
 
 -- the first octet that no text of a grammar can have there, "the length if the text ends early"; nothing for a text of it
 unfoldable pub fault_from : ℕ → Grammar → Octets → Option ℕ
-fault_from at g [] = if has_empty g then nothing else just at
-fault_from at g (x ∷ s) = elim (has_text (following x g)) [ true ↦ fault_from (suc at) (following x g) s | false ↦ just at ]
+fault_from at g [] = if has_empty g then None else Some at
+fault_from at g (x ∷ s) = elim (has_text (following x g)) [ true ↦ fault_from (suc at) (following x g) s | false ↦ Some at ]
 
 unfoldable pub fault : Grammar → Octets → Option ℕ
 fault g s = fault_from 0 g s
 
 -- how long the shortest-text front part is that is a text of a grammar
 unfoldable pub shortest_text_from : ℕ → Grammar → Octets → Option ℕ
-shortest_text_from at g [] = if has_empty g then just at else nothing
-shortest_text_from at g (x ∷ s) = elim (has_empty g) [ true ↦ just at | false ↦ shortest_text_from (suc at) (following x g) s ]
+shortest_text_from at g [] = if has_empty g then Some at else None
+shortest_text_from at g (x ∷ s) = elim (has_empty g) [ true ↦ Some at | false ↦ shortest_text_from (suc at) (following x g) s ]
 
 unfoldable pub shortest_text : Grammar → Octets → Option ℕ
 shortest_text g s = shortest_text_from 0 g s
@@ -72,13 +71,13 @@ shortest_text g s = shortest_text_from 0 g s
 
 -- the first octet that no text of a grammar can have there
 pub record Faults (g : Grammar) (s : Octets) : Type 0 where
-  pub without : fault g s ≡ nothing → Text g s
-  pub none : Text g s → fault g s ≡ nothing
+  pub without : fault g s ≡ None → Text g s
+  pub none : Text g s → fault g s ≡ None
   -- where the grammar has a text at all
-  pub place : Viable g [] → (p : ℕ) → fault g s ≡ just p → Fault g s p
+  pub place : Viable g [] → (p : ℕ) → fault g s ≡ Some p → Fault g s p
 
 -- of the shortest-text front part that is a text of a grammar
 pub record ShortestFound (g : Grammar) (s : Octets) : Type 0 where
-  pub is : (n : ℕ) → shortest_text g s ≡ just n → (n ≤ length s) × Text g (take n s)
-  pub not_before : (n : ℕ) → shortest_text g s ≡ just n → (m : ℕ) → m < n → Text g (take m s) → ⊥
-  pub none : shortest_text g s ≡ nothing → (m : ℕ) → m ≤ length s → Text g (take m s) → ⊥
+  pub is : (n : ℕ) → shortest_text g s ≡ Some n → (n ≤ length s) × Text g (take n s)
+  pub not_before : (n : ℕ) → shortest_text g s ≡ Some n → (m : ℕ) → m < n → Text g (take m s) → ⊥
+  pub none : shortest_text g s ≡ None → (m : ℕ) → m ≤ length s → Text g (take m s) → ⊥

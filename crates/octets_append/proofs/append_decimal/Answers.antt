@@ -3,17 +3,17 @@ use Rattle.octets.specs.Decimal.{decimal}
 use native.Mathlib.Omega.{arith}
 use Rattle.octets_append.proofs.append_decimal.Goals as goal
 
+pub overflow_add-result : goal.overflow_add-result
+overflow_add-result c =
+    let a = c.args in
+    record { fits = omega (arith, c.unwrap_or.ensures, place_bound (decimal a.x) a.out.now a.at (omega arith) c.write_decimal.ensures (omega arith)) }
+
 pub returns-then-out-at : goal.returns-then-out-at
 returns-then-out-at c =
     let a = c.args in
     appends_past (decimal a.x) a.out.now a.at c.if-out-at.true
 
-pub next_place-requires : goal.next_place-requires
-next_place-requires c =
+pub returns-else-out-at : goal.returns-else-out-at
+returns-else-out-at c =
     let a = c.args in
-    place_bound (decimal a.x) a.out.now a.at (omega arith) c.write_decimal.ensures (omega arith)
-
-pub returns : goal.returns
-returns c =
-    let a = c.args in
-    appends (decimal a.x) a.out.now a.at (omega arith) c.write_decimal.ensures c.next_place.result c.next_place.ensures
+    rw c.unwrap_or.ensures (appends (decimal a.x) a.out.now a.at (omega arith) c.write_decimal.ensures)

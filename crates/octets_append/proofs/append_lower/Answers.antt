@@ -3,17 +3,17 @@ use Rattle.octets.specs.Octets.{lower}
 use native.Mathlib.Omega.{arith}
 use Rattle.octets_append.proofs.append_lower.Goals as goal
 
+pub overflow_add-result : goal.overflow_add-result
+overflow_add-result c =
+    let a = c.args in
+    record { fits = omega (arith, c.unwrap_or.ensures, place_bound (lower a.text.now) a.out.now a.at (omega arith) c.write_lower.ensures (omega arith)) }
+
 pub returns-then-out-at : goal.returns-then-out-at
 returns-then-out-at c =
     let a = c.args in
     appends_past (lower a.text.now) a.out.now a.at c.if-out-at.true
 
-pub next_place-requires : goal.next_place-requires
-next_place-requires c =
+pub returns-else-out-at : goal.returns-else-out-at
+returns-else-out-at c =
     let a = c.args in
-    place_bound (lower a.text.now) a.out.now a.at (omega arith) c.write_lower.ensures (omega arith)
-
-pub returns : goal.returns
-returns c =
-    let a = c.args in
-    appends (lower a.text.now) a.out.now a.at (omega arith) c.write_lower.ensures c.next_place.result c.next_place.ensures
+    rw c.unwrap_or.ensures (appends (lower a.text.now) a.out.now a.at (omega arith) c.write_lower.ensures)

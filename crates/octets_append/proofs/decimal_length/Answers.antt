@@ -1,9 +1,7 @@
-use Rattle.octets.proofs.DecimalLaws.{length_one, length_more}
-use native.Mathlib.Omega.{arith}
+use Rattle.octets_append.proofs.DecimalLength.{so_long}
 use Rattle.octets_append.proofs.decimal_length.Goals as goal
 
-pub loop-rest-preserved : goal.loop-rest-preserved
-loop-rest-preserved c = omega (arith, length_more c.loop-rest.rest c.loop-rest-test.true)
-
 pub returns : goal.returns
-returns c = omega (arith, length_one c.loop-rest.rest c.loop-rest-test.false)
+returns c =
+    let e = c.checked_ilog10.ensures in
+    rw c.unwrap_or.ensures (so_long c.args.x c.checked_ilog10.result e.none e.power_le e.next_power_gt)

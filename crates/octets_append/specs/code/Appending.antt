@@ -2,13 +2,6 @@
 use Rattle.std.specs.Prelude.{◌≡◌, ◌++◌, Bool, ℕ, ◌+◌, leb, length, take, drop, if◌then◌else◌}
 use Rattle.octets.specs.Octets.{Octets}
 use Rattle.octets.specs.Lent.{over}
-use Rattle.octets.specs.declared.Written.{Written}
-use Rattle.octets.specs.declared.Written.TheVariants.{Wrote, Refused}
-
--- the place after what was written at a place
-unfoldable pub place_after : ℕ → Written → ℕ
-place_after at (Wrote n) = at + n
-place_after at (Refused r) = at
 
 -- whether the memory has room for the text from a place on
 unfoldable pub fits_at : Octets → ℕ → Octets → Bool

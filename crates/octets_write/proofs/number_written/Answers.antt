@@ -2,10 +2,10 @@
 use Rattle.octets.specs.Lent.{written_numbers}
 use Rattle.octets_write.proofs.number_written.Goals as goal
 
-pub returns-in-Wrote : goal.returns-in-Wrote
+pub returns-in-Ok : goal.returns-in-Ok
 unfolding written_numbers
-returns-in-Wrote c = rw c.in-Wrote.is
+returns-in-Ok c = rw c.in-Ok.is
 
-pub returns-in-Refused : goal.returns-in-Refused
+pub returns-in-Err : goal.returns-in-Err
 unfolding written_numbers
-returns-in-Refused c = rw c.in-Refused.is
+returns-in-Err c = rw c.in-Err.is

@@ -1,13 +1,13 @@
-use mathlib.Core.Path.{refl, ap₂, sym, ◌∙◌}
-use lib.ListN.{set, get_or, length-set}
-use Rattle.octets.specs.Octets.{Octets, lower}
-use Rattle.octets.proofs.TextLaws.{lower_length, lower_at}
-use Rattle.octets.proofs.LentLaws.{one_more, refuses, writes, copied}
-use borrow.Author.Rules.{rules}
-use mathlib.Core.Path.{◌≡◌}
-use Prim.Native.Nat.{ℕ, ◌<◌}
+-- `octets_write::write_lower` meets its contract.
+use mathlib.Core.Path.{◌≡◌, ap, sym, ◌∙◌}
+use mathlib.Core.List.{◌++◌, map}
+use lib.ListN.{drop, length}
 use native.Mathlib.Omega.{arith}
-use lib.ListN.{length}
+use Rattle.std.specs.Char.{to_ascii_lowercase}
+use Rattle.octets.specs.Octets.{Octets, lower}
+use Rattle.octets.specs.Lent.{over}
+use Rattle.octets.proofs.TextLaws.{lower_length, lowered}
+use Rattle.octets.proofs.LentLaws.{refuses, writes}
 use Rattle.octets_write.proofs.write_lower.Goals as goal
 
 pub returns-then-out-size : goal.returns-then-out-size
@@ -15,23 +15,11 @@ returns-then-out-size c =
     let a = c.args in
     refuses (lower a.text.now) a.out.now (omega (arith, lower_length a.text.now, c.if-out-size.true)) _ (sym (lower_length a.text.now)) _ c.too_short.ensures
 
-pub loop-i-preserved : goal.loop-i-preserved
-loop-i-preserved c =
-    let a = c.args in
-    let m = c.loop-i in
-    let room : m.i < length (lower a.text.now) = omega (arith, lower_length a.text.now) in
-    let octet : c.lower_octet.result ≡ get_or (lower a.text.now) m.i 0 = c.lower_octet.ensures ∙ sym (lower_at a.text.now m.i) in (
-      omega arith,
-      refl,
-      search rules,
-      simp length-set (search rules),
-      ap₂ (λ (l : Octets) (b : ℕ). set l m.i b) m.invariant.4 octet ∙ one_more (lower a.text.now) a.out.now m.i room (omega arith),
-    )
-
 pub returns : goal.returns
+unfolding over
 returns c =
     let a = c.args in
-    let m = c.loop-i in
-    let all : m.i ≡ length (lower a.text.now) = omega (arith, lower_length a.text.now) in
-    writes (lower a.text.now) a.out.now (omega (arith, lower_length a.text.now)) _ (sym (lower_length a.text.now)) m.out
-    (m.invariant.4 ∙ copied (lower a.text.now) a.out.now m.i all)
+    let front : c.make_ascii_lowercase.new.self ≡ lower a.text.now =
+    c.make_ascii_lowercase.ensures.after ∙ ap (map to_ascii_lowercase) c.copy_from_slice.ensures.after ∙ lowered a.text.now in
+    writes (lower a.text.now) a.out.now (omega (arith, lower_length a.text.now, c.if-out-size.false)) _ (sym (lower_length a.text.now)) _
+    (rw (lower_length a.text.now) (ap (λ (l : Octets). l ++ drop (length a.text.now) a.out.now) front))

@@ -1,6 +1,5 @@
 -- What a program reads whole, and what that says of the place of a refusal.
-use Rattle.std.specs.Prelude.{◌≡◌, List, [], ◌∷◌, ◌++◌, ◌⊎◌, ℕ, suc, ◌<◌, length, take}
-use Rattle.std.proofs.Math.Option.{none as nothing}
+use Rattle.std.specs.Prelude.{◌≡◌, List, [], ◌∷◌, ◌++◌, ◌⊎◌, ℕ, suc, ◌<◌, length, take, None}
 use Rattle.octets.specs.Octets.{Octets}
 use Rattle.octets.specs.Refusing.{ok, not_ok, refusal}
 use Rattle.octets.specs.declared.Refusal.{Refusal}
@@ -10,7 +9,7 @@ use Rattle.parsing.specs.Reads.{Reads, done, give, next, stuck, run, ended}
 unfoldable pub Whole : {R A : Type 0} → Reads R A → Octets → List R → A → Type 0
 Whole (done a) s rs b = (s ≡ []) × (rs ≡ []) × (a ≡ b)
 Whole {R} (give r t) s rs b = (qs : List R) × (rs ≡ r ∷ qs) × Whole t s qs b
-Whole (next refuses k) s rs b = (x : ℕ) × (u : Octets) × (s ≡ x ∷ u) × (refuses x ≡ nothing) × Whole (k x) u rs b
+Whole (next refuses k) s rs b = (x : ℕ) × (u : Octets) × (s ≡ x ∷ u) × (refuses x ≡ None) × Whole (k x) u rs b
 
 -- whether some text that a program reads whole begins so
 abbrev pub Begun : {R A : Type 0} → Reads R A → Octets → Type 0
@@ -20,7 +19,7 @@ Begun {R} {A} t s = (rest : Octets) × (rs : List R) × (a : A) × Whole t (s ++
 unfoldable pub Live : {R A : Type 0} → Reads R A → Type 0
 Live (done a) = Unit
 Live (give r t) = Live t
-Live (next refuses k) = ((x : ℕ) × (refuses x ≡ nothing)) × ((x : ℕ) → refuses x ≡ nothing → Live (k x))
+Live (next refuses k) = ((x : ℕ) × (refuses x ≡ None)) × ((x : ℕ) → refuses x ≡ None → Live (k x))
 
 pub record Reading {R A : Type 0} (t : Reads R A) (s : Octets) : Type 0 where
   -- what is accepted is what it reads whole, with these rows

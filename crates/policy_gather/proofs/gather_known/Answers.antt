@@ -1,17 +1,16 @@
 -- `policy_gather::gather_known` meets its contract: what was found and what is left say together what the whole says.
-use mathlib.Core.Bool.{not, false}
+use mathlib.Core.Bool.{not}
 use mathlib.Core.Path.{◌≡◌, refl, ap, sym, ◌∙◌}
-use Prim.Native.Nat.{◌-◌}
 use native.Mathlib.Omega.{arith}
 use lib.Dec.{eqb}
 use lib.ListN.{length, drop, length-set}
 use Rattle.octets.specs.Octets.{Octets, is_letter, lower, front, after, is_blank, trim}
-use Rattle.octets.proofs.TextLaws.{true→T}
 use Rattle.policy_words.specs.code.Rows.{tag_number}
 use Rattle.policy_tags.specs.code.TagNames.{name_of, tag_value}
 use Rattle.policy_tags.proofs.TagLaws.{part_fits, kept_fits, value_fits}
 use Rattle.policy_gather.specs.code.Gathering.{bounds_at}
 use Rattle.policy_gather.proofs.GatherLaws.{leaves_both, even_set, even_first, turn_ill, turn_unknown, turn_found, turn_new, repeats_some, repeats_none, all_counted, all_placed}
+use Rattle.policy_gather.proofs.StartLaws.{some_none, same_some}
 use Rattle.policy_gather.proofs.gather_known.Goals as goal
 
 pub loop-at-init : goal.loop-at-init
@@ -48,9 +47,9 @@ returns-then-lengths-number-ne0 c =
     let k : n ≡ tag_number (name_of (trim p)) = c.tag_number-number.ensures ∙ ap (λ (l : Octets). tag_number (lower l)) (c.front.ensures ∙ ap (front is_letter) g) in
     let found = turn_found text m.begins m.lengths m.others m.at p f v w c.if-length-ne0.true n k c.if-number-lt14.true c.if-lengths-number-ne0.true in
     record {
-      judged = c.no_tags.ensures ∙ ap not (sym (repeats_some text c.args.from m.begins m.lengths m.others m.at m.invariant.4 found));
-      counted = λ t. absurd (true→T {b = false} (sym c.no_tags.ensures ∙ t));
-      placed = λ t. absurd (true→T {b = false} (sym c.no_tags.ensures ∙ t));
+      judged = ap not (sym (repeats_some text c.args.from m.begins m.lengths m.others m.at m.invariant.4 found));
+      counted = λ g q. absurd (some_none (sym q));
+      placed = λ g q. absurd (some_none (sym q));
     }
 
 pub overflow_sub-begins : goal.overflow_sub-begins
@@ -160,6 +159,6 @@ returns c =
     let from = c.args.from in
     record {
       judged = ap not (sym (repeats_none text from m.begins m.lengths m.others m.at m.invariant.4 c.loop-at-test.false));
-      counted = λ v. all_counted text from m.begins m.lengths m.others m.at m.invariant.4 c.loop-at-test.false;
-      placed = λ v. all_placed text from m.begins m.lengths m.others m.at m.invariant.4 c.loop-at-test.false m.invariant.3;
+      counted = λ g q. rw (← same_some q) (all_counted text from m.begins m.lengths m.others m.at m.invariant.4 c.loop-at-test.false);
+      placed = λ g q. rw (← same_some q) (all_placed text from m.begins m.lengths m.others m.at m.invariant.4 c.loop-at-test.false m.invariant.3);
     }

@@ -1,13 +1,10 @@
 -- `policy_read::read` meets its contract: what was gathered sets what the tags of the text set.
-use mathlib.Core.Path.{ap, sym, ◌∙◌}
-use Rattle.policy.specs.declared.Reading.{Reading}
+use Rattle.std.proofs.Common.{Some, ap, ◌∙◌}
 use Rattle.policy_read.proofs.RecordLaws.{no_record, one_record}
 use Rattle.policy_read.proofs.read.Goals as goal
 
-pub returns-then-tags : goal.returns-then-tags
-returns-then-tags c =
-    let g = c.gather-tags in
-    ap Reading.Record c.read_settings.ensures ∙ one_record c.args.text.now g.result g.ensures c.if-tags.true
+pub returns-in-Some : goal.returns-in-Some
+returns-in-Some c = ap Some c.read_settings.ensures ∙ one_record c.args.text.now c.in-Some.tags (rw c.in-Some.is at c.gather.ensures)
 
-pub returns : goal.returns
-returns c = no_record c.args.text.now (sym c.gather-tags.ensures.judged ∙ c.if-tags.false)
+pub returns-in-None : goal.returns-in-None
+returns-in-None c = no_record c.args.text.now (rw c.in-None.is at c.gather.ensures)

@@ -15,4 +15,4 @@ cut-first s n =
 
 pub returns : goal.returns
 unfolding value_at
-returns c = rw (← c.skip.ensures) (c.part.ensures ∙ cut-first c.skip.result.now _)
+returns c = rw (← c.skip-rest.ensures) (c.part.ensures ∙ cut-first c.skip-rest.result.now _)

@@ -1,33 +1,19 @@
--- `policy_reports::has_valid_entry` meets its contract: no entry that was passed is valid.
-use mathlib.Core.Bool.{not}
-use mathlib.Core.Path.{ap, sym, ◌∙◌}
-use Prim.Native.Nat.{◌+◌}
-use native.Mathlib.Omega.{arith}
+-- `policy_reports::has_valid_entry` meets its contract: std's parts of the list are its entries.
+use Rattle.std.proofs.Common.{◌∙◌, ℕ, sym, rules, tests}
+use Rattle.std.proofs.lemmas.Iterator.Search.{any_from_yields_List}
+use Rattle.std.proofs.lemmas.Iterator.Splits.{YieldsList-from_slice_split}
 use lib.Dec.{eqb}
-use lib.ListN.{length}
-use Rattle.octets.proofs.PartLaws.{front_fits, goes_on}
-use Rattle.policy_reports.proofs.ReportLaws.{first_entry, no_entry}
+use Rattle.octets.specs.Octets.{Octets, trim}
+use Rattle.policy.specs.Reports.{valid_entry, has_valid_entry}
+use Rattle.policy_reports.proofs.ReportLaws.{an_entry}
 use Rattle.policy_reports.proofs.has_valid_entry.Goals as goal
 
-pub returns-then-is_valid_entry : goal.returns-then-is_valid_entry
-returns-then-is_valid_entry c =
-    let m = c.loop-t in
-    let part = c.front-entry in
-    rw (m.invariant.1, first_entry m.t.now part.result.now part.ensures, ← c.trim.ensures, ← c.is_valid_entry.ensures, c.if-is_valid_entry.true)
-
-pub overflow_add-entry : goal.overflow_add-entry
-overflow_add-entry c = omega (arith, ap length c.front-entry.ensures, front_fits (λ x. not (eqb x 44)) c.loop-t.t.now)
-
-pub loop-t-smaller : goal.loop-t-smaller
-loop-t-smaller c = goes_on (length c.front-entry.result.now + 1) c.loop-t.t.now _ c.skip-rest.ensures (omega arith) c.loop-t-test.true
-
-pub loop-t-preserved : goal.loop-t-preserved
-loop-t-preserved c =
-    let m = c.loop-t in
-    let part = c.front-entry in (
-      omega (arith, goes_on (length part.result.now + 1) m.t.now _ c.skip-rest.ensures (omega arith) c.loop-t-test.true),
-      rw (m.invariant.1, first_entry m.t.now part.result.now part.ensures, ← c.trim.ensures, ← c.is_valid_entry.ensures, c.if-is_valid_entry.false, c.skip-rest.ensures),
-    )
-
 pub returns : goal.returns
-returns c = sym (c.loop-t.invariant.1 ∙ no_entry c.loop-t.t.now c.loop-t-test.false)
+unfolding has_valid_entry
+returns c =
+    let s = c.args.list.now in
+    let cut = c.split.ensures in
+    any_from_yields_List (λ (e : Octets). valid_entry (trim e)) _ _ _ c.any.ensures.ran
+    (YieldsList-from_slice_split _ (λ (b : ℕ). eqb b 44) s cut.rest cut.done cut.closure (λ x b q k. search (rules, tests)))
+    (λ x b q k. search (rules, tests))
+    ∙ sym (an_entry (λ e. valid_entry (trim e)) s)

@@ -14,7 +14,7 @@ returns-then-same_text c =
     let m = c.loop-i in
     let a = c.args in
     let here = place_here a.s.now m.i a.last (omega arith) (rw (c.find_piece.ensures ∙ word_is m.i) at (sym c.same_text.ensures ∙ c.if-same_text.true)) in
-    omega (arith, m.invariant.2, here)
+    record { place = omega (arith, m.invariant.2, here); bound = omega arith }
 
 pub loop-i-preserved : goal.loop-i-preserved
 unfolding tag_names record_words octets flatten starts
@@ -28,4 +28,4 @@ pub returns : goal.returns
 returns c =
     let m = c.loop-i in
     let a = c.args in
-    omega (arith, m.invariant.2, place_past a.s.now m.i a.last (omega arith))
+    record { place = omega (arith, m.invariant.2, place_past a.s.now m.i a.last (omega arith)); bound = omega arith }

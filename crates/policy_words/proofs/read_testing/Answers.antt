@@ -1,16 +1,12 @@
 -- `policy_words::read_testing` meets its contract: its entries beside the words are computed.
 use mathlib.Core.Bool.{false}
 use mathlib.Core.Path.{refl}
-use native.Mathlib.Omega.{arith}
 use Rattle.octets.specs.Octets.{octets, between, lower_octet, lower}
 use Rattle.policy.specs.Records.{testing_words}
 use Rattle.policy_words.specs.code.Rows.{tag_names, record_words, words_from}
-use Rattle.policy_words.proofs.TableLaws.{entry_fits, entry_word}
+use Rattle.policy_words.proofs.TableLaws.{entry_word}
 use Rattle.policy_words.proofs.read_testing.Goals as goal
-
-pub bounds-number : goal.bounds-number
-bounds-number c = omega (arith, entry_fits _ 19 21 _ c.find_word-number.ensures)
 
 pub returns : goal.returns
 unfolding octets lower lower_octet between tag_names record_words words_from testing_words
-returns c = entry_word _ 19 21 _ c.find_word-number.ensures testing_words false refl _
+returns c = entry_word _ 19 21 _ c.find_word.ensures.place testing_words false refl _

@@ -5,4 +5,4 @@ use Rattle.policy_words.proofs.tag_number.Goals as goal
 
 pub returns : goal.returns
 unfolding tag_number tag_names record_words words_from word_place octets lower lower_octet between
-returns c = c.find_word.ensures
+returns c = c.find_word.ensures.place

@@ -1,31 +1,18 @@
--- `publishing_rua::are_entries` meets its contract: every entry that was passed is valid.
-use native.Mathlib.Omega.{arith}
-use mathlib.Core.Path.{sym, ◌∙◌}
-use Prim.Native.Nat.{◌+◌}
-use Rattle.octets.specs.Octets.{trim}
-use Rattle.octets.proofs.PartLaws.{goes_on}
-use Rattle.publishing_rua.proofs.EntryLaws.{first_of_more, last_of_all}
+-- `publishing_rua::are_entries` meets its contract: std's parts of the list are its entries.
+use Rattle.std.proofs.Common.{◌∙◌, ℕ, sym, rules, tests}
+use Rattle.std.proofs.lemmas.Iterator.Search.{all_from_yields_List}
+use Rattle.std.proofs.lemmas.Iterator.Splits.{YieldsList-from_slice_split}
+use lib.Dec.{eqb}
+use Rattle.octets.specs.Octets.{Octets, trim}
+use Rattle.policy.specs.Reports.{valid_entry}
+use Rattle.policy_reports.proofs.ReportLaws.{every_entry}
 use Rattle.publishing_rua.proofs.are_entries.Goals as goal
-
-pub returns-then-not-is_valid_entry : goal.returns-then-not-is_valid_entry
-returns-then-not-is_valid_entry c =
-    let m = c.loop-n in
-    sym (m.invariant.2 ∙ first_of_more m.t.now m.n m.invariant.1 c.loop-n-test.true ∙ rw (← c.trim.ensures, ← c.is_valid_entry.ensures, c.if-not-is_valid_entry.true))
-
-pub loop-n-smaller : goal.loop-n-smaller
-loop-n-smaller c =
-    let m = c.loop-n in
-    goes_on (m.n + 1) m.t.now _ c.skip-rest.ensures (omega arith) (omega arith)
-
-pub loop-n-preserved : goal.loop-n-preserved
-loop-n-preserved c =
-    let m = c.loop-n in (
-      omega (arith, goes_on (m.n + 1) m.t.now _ c.skip-rest.ensures (omega arith) (omega arith)),
-      c.find_octet-n-in-loop-n.ensures,
-      m.invariant.2 ∙ first_of_more m.t.now m.n m.invariant.1 c.loop-n-test.true ∙ rw (← c.trim.ensures, ← c.is_valid_entry.ensures, c.if-not-is_valid_entry.false, c.skip-rest.ensures),
-    )
 
 pub returns : goal.returns
 returns c =
-    let m = c.loop-n in
-    sym (m.invariant.2 ∙ last_of_all m.t.now m.n m.invariant.1 c.loop-n-test.false ∙ rw (← c.trim-2.ensures, ← c.is_valid_entry-2.ensures))
+    let s = c.args.list.now in
+    let cut = c.split.ensures in
+    all_from_yields_List (λ (e : Octets). valid_entry (trim e)) _ _ _ c.all.ensures.ran
+    (YieldsList-from_slice_split _ (λ (b : ℕ). eqb b 44) s cut.rest cut.done cut.closure (λ x b q k. search (rules, tests)))
+    (λ x b q k. search (rules, tests))
+    ∙ sym (every_entry (λ e. valid_entry (trim e)) s)

@@ -10,7 +10,7 @@ returns-then-value-ge-NO_WORD c =
     let a = c.args in
     rw (le-leb 25 a.value c.if-value-ge-NO_WORD.true) (puts_nothing a.out.now a.at)
 
-pub returns : goal.returns
+pub returns-else-value-ge-NO_WORD : goal.returns-else-value-ge-NO_WORD
 unfolding tag_words
-returns c =
+returns-else-value-ge-NO_WORD c =
     rw (lt-leb 25 c.args.value c.if-value-ge-NO_WORD.false) c.put_words.ensures

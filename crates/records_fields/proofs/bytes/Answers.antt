@@ -4,4 +4,4 @@ use Rattle.records_fields.proofs.LayoutLaws.{bytes_part}
 use Rattle.records_fields.proofs.bytes.Goals as goal
 
 pub returns : goal.returns
-returns c = c.skip.ensures ∙ bytes_part c.args.body.now c.octet_at.result c.octet_at.ensures
+returns c = c.skip.ensures ∙ bytes_part c.args.body.now c.from.result (c.from.ensures ∙ c.octet_at.ensures)

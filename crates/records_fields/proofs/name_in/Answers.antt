@@ -7,4 +7,4 @@ use Rattle.records_fields.proofs.name_in.Goals as goal
 pub returns : goal.returns
 returns c =
     c.without_dot.ensures
-    ∙ ap without_dot c.part-name.ensures ∙ name_part c.args.body.now c.octet_at.result c.octet_at.ensures
+    ∙ ap without_dot c.part-name.ensures ∙ name_part c.args.body.now c.from.result (c.from.ensures ∙ c.octet_at.ensures)

@@ -1,6 +1,5 @@
 -- A sheet's records where they lie: a record is the text from its mark on.
-use Rattle.std.specs.Prelude.{◌≡◌, List, [], ◌∷◌, Bool, ◌&&◌, ℕ, zero, suc, ◌+◌, ◌-◌, length, take, drop, get_or, if◌then◌else◌}
-use Rattle.std.proofs.Math.Option.{Option, none as nothing, some as just}
+use Rattle.std.specs.Prelude.{◌≡◌, List, [], ◌∷◌, Bool, ◌&&◌, ℕ, zero, suc, ◌+◌, ◌-◌, length, take, drop, get_or, if◌then◌else◌, Result, Ok, Err, Option, None, Some}
 use Rattle.octets.specs.Octets.{Octets, octets, same, same_text}
 use Rattle.octets.specs.Framing.{mark_of, body_of, after_record}
 use Rattle.octets.specs.Refusing.{ok, not_ok, refusal}
@@ -8,11 +7,10 @@ use Rattle.domain.specs.Domain.{without_dot}
 use Rattle.txt.specs.declared.Status.{Status}
 use Rattle.book.specs.Start.{GivenIdentifier, GivenMessage}
 use Rattle.records.specs.Sheet.{Entry, status_of, entry_of, entries}
-use Rattle.records_fields.specs.declared.Scanned.{Scanned}
 
 unfoldable pub onto : Option Entry → List Entry → List Entry
-onto nothing rs = rs
-onto (just r) rs = r ∷ rs
+onto None rs = rs
+onto (Some r) rs = r ∷ rs
 
 -- the entries of the first k records
 unfoldable pub listed : ℕ → Octets → List Entry
@@ -34,8 +32,8 @@ found_body zero name t = []
 found_body (suc k) name t = if answers_name name t then body_of t else found_body k name (after_record t)
 
 unfoldable pub status_or_error : Option Status → Status
-status_or_error nothing = Status.Error
-status_or_error (just s) = s
+status_or_error None = Status.Error
+status_or_error (Some s) = s
 
 -- its status, where the number of an empty body is 2: "An asked name that has no `AN` is an error"
 unfoldable pub status_in : Octets → Status
@@ -71,6 +69,6 @@ pub record Whole (k : ℕ) (sheet : Octets) : Type 0 where
   pub reads : entries sheet ≡ ok (listed k sheet)
   pub all_listed : length (listed k sheet) ≡ k
 
-unfoldable pub Checks : Octets → Scanned → Type 0
-Checks sheet (Scanned.Whole k) = Whole k sheet
-Checks sheet (Scanned.Broken place) = entries sheet ≡ not_ok (refusal 8 place)
+unfoldable pub Checks : Octets → Result ℕ ℕ → Type 0
+Checks sheet (Ok k) = Whole k sheet
+Checks sheet (Err place) = entries sheet ≡ not_ok (refusal 8 place)

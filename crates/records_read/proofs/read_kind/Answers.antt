@@ -3,6 +3,7 @@ use mathlib.Core.Path.{sym, ◌∙◌}
 use Rattle.octets.specs.Octets.{octets}
 use Rattle.records_read.proofs.KindLaws.{kind_short, kind_author, kind_identifier, kind_other, kind_answer, kind_no_answer}
 use Rattle.records_read.proofs.read_kind.Goals as goal
+use Rattle.records_read.proofs.read_kind.Goals.{else-same_octets-3-via-then-same_octets-3+else-is_answer, else-same_octets-3-via-else-same_octets-3}
 
 pub returns-then-content-lt2 : goal.returns-then-content-lt2
 returns-then-content-lt2 c = kind_short c.args.t.now c.body-content.result.now c.body-content.ensures c.if-content-lt2.true
@@ -17,22 +18,24 @@ pub returns-then-same_octets-2 : goal.returns-then-same_octets-2
 unfolding octets
 returns-then-same_octets-2 c =
     kind_identifier c.args.t.now c.body-content.result.now c.part-mark.result.now c.body-content.ensures c.part-mark.ensures
-    (sym c.same_octets.ensures ∙ c.if-same_octets.false) c.if-content-lt2.false (sym c.same_octets-2.ensures ∙ c.if-same_octets-2.true)
-
-pub returns-then-not-same_octets : goal.returns-then-not-same_octets
-unfolding octets
-returns-then-not-same_octets c =
-    kind_other c.args.t.now c.body-content.result.now c.part-mark.result.now c.body-content.ensures c.part-mark.ensures
-    (sym c.same_octets.ensures ∙ c.if-same_octets.false) (sym c.same_octets-2.ensures ∙ c.if-same_octets-2.false) (sym c.same_octets-3.ensures ∙ c.if-not-same_octets.true)
+    (sym c.same_octets.ensures ∙ c.if-same_octets.false) c.if-content-lt2.false (sym c.same_octets-else-same_octets.ensures ∙ c.if-same_octets-2.true)
 
 pub returns-then-is_answer : goal.returns-then-is_answer
 unfolding octets
 returns-then-is_answer c =
     kind_answer c.args.t.now c.body-content.result.now c.part-mark.result.now c.body-content.ensures c.part-mark.ensures
-    (sym c.same_octets-3.ensures ∙ c.if-not-same_octets.false) (sym c.if-is_answer.true ∙ c.is_answer.ensures)
+    (sym c.same_octets-else-same_octets-2.ensures ∙ c.if-same_octets-3.true) (sym c.if-is_answer.true ∙ c.is_answer.ensures)
 
-pub returns : goal.returns
+pub returns-else-same_octets-3 : goal.returns-else-same_octets-3
 unfolding octets
-returns c =
-    kind_no_answer c.args.t.now c.body-content.result.now c.part-mark.result.now c.body-content.ensures c.part-mark.ensures
-    (sym c.same_octets-3.ensures ∙ c.if-not-same_octets.false) (sym c.if-is_answer.false ∙ c.is_answer.ensures)
+returns-else-same_octets-3 c =
+    let body = c.body-content in
+    let mark = c.part-mark in
+    let other = c.same_octets-else-same_octets-2.ensures in
+    elim c.else-same_octets-3.branch [
+      | else-same_octets-3-via-then-same_octets-3+else-is_answer w ↦
+          kind_no_answer c.args.t.now body.result.now mark.result.now body.ensures mark.ensures (sym other ∙ w.if-same_octets-3.true) (sym w.if-is_answer.false ∙ w.is_answer.ensures)
+      | else-same_octets-3-via-else-same_octets-3 w ↦
+          kind_other c.args.t.now body.result.now mark.result.now body.ensures mark.ensures
+          (sym c.same_octets.ensures ∙ c.if-same_octets.false) (sym c.same_octets-else-same_octets.ensures ∙ c.if-same_octets-2.false) (sym other ∙ w.if-same_octets-3.false)
+    ]

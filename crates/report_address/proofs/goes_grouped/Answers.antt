@@ -1,19 +1,24 @@
 -- `report_address::goes_grouped` meets its contract.
-use mathlib.Core.Path.{sym, ◌∙◌}
-use Rattle.report_address.proofs.AddressTests.{not_grouped, no_hex, group_zero, not_five, in_grouped}
+use Rattle.std.proofs.Common.{◌≡◌, ◌&&◌, ◌+◌, ◌*◌, not, eqb, arith}
+use Rattle.std.proofs.lemmas.Grind.{common_steps}
+use Rattle.report_form.specs.code.ReportReading.{can_be_grouped, lower_hex, digit_value}
+use Rattle.report_address.specs.code.Addresses.{kind_of, only_zero_in, grouped_on}
 use Rattle.report_address.proofs.goes_grouped.Goals as goal
 
-pub returns-then-not-can_group : goal.returns-then-not-can_group
-returns-then-not-can_group c = let a = c.args in not_grouped a.kind a.five a.digits a.sixteen a.x (sym c.can_group.ensures ∙ c.if-not-can_group.true)
+pub returns-after-five : goal.returns-after-five
+unfolding grouped_on
+returns-after-five c =
+    let a = c.args in
+    let first : c.if-can_group.value ≡ (can_be_grouped (kind_of a.kind) && lower_hex a.x) = grind (arith, common_steps) in
+    let second : c.if-is_hex.value ≡ (c.if-can_group.value && not (only_zero_in a.digits a.sixteen)) = grind (arith, common_steps) in
+    let all : grouped_on a.kind a.five a.digits a.sixteen a.x ≡ (c.if-is_hex.value && not (a.five && eqb (a.sixteen * 16 + digit_value a.x) 65535)) = rw (second, first) in
+    rw (all, c.if-not-is_zero.true) (grind (arith, common_steps))
 
-pub returns-then-not-is_hex : goal.returns-then-not-is_hex
-returns-then-not-is_hex c = let a = c.args in no_hex a.kind a.five a.digits a.sixteen a.x (sym c.can_group.ensures ∙ c.if-not-can_group.false) (sym c.is_hex.ensures ∙ c.if-not-is_hex.true)
-
-pub returns-then-is_zero : goal.returns-then-is_zero
-returns-then-is_zero c = let a = c.args in group_zero a.kind a.five a.digits a.sixteen a.x (sym c.can_group.ensures ∙ c.if-not-can_group.false) (sym c.is_hex.ensures ∙ c.if-not-is_hex.false) (sym c.is_zero.ensures ∙ c.if-is_zero.true)
-
-pub returns-then-not-five : goal.returns-then-not-five
-returns-then-not-five c = let a = c.args in not_five a.kind a.five a.digits a.sixteen a.x (sym c.can_group.ensures ∙ c.if-not-can_group.false) (sym c.is_hex.ensures ∙ c.if-not-is_hex.false) (sym c.is_zero.ensures ∙ c.if-is_zero.false) (c.if-not-five.true)
-
-pub returns : goal.returns
-returns c = let a = c.args in in_grouped a.kind a.five a.digits a.sixteen a.x _ (sym c.can_group.ensures ∙ c.if-not-can_group.false) (sym c.is_hex.ensures ∙ c.if-not-is_hex.false) (sym c.is_zero.ensures ∙ c.if-is_zero.false) (c.if-not-five.false) c.value_of-unit.ensures
+pub returns-else-not-is_zero : goal.returns-else-not-is_zero
+unfolding grouped_on
+returns-else-not-is_zero c =
+    let a = c.args in
+    let first : c.if-can_group.value ≡ (can_be_grouped (kind_of a.kind) && lower_hex a.x) = grind (arith, common_steps) in
+    let second : c.if-is_hex.value ≡ (c.if-can_group.value && not (only_zero_in a.digits a.sixteen)) = grind (arith, common_steps) in
+    let all : grouped_on a.kind a.five a.digits a.sixteen a.x ≡ (c.if-is_hex.value && not (a.five && eqb (a.sixteen * 16 + digit_value a.x) 65535)) = rw (second, first) in
+    rw (all, c.if-not-is_zero.false)

@@ -1,12 +1,15 @@
 -- `report_address::is_last_number` meets its contract.
+use Rattle.std.proofs.Common.{◌≡◌, arith}
 use Rattle.report_address.proofs.AddressTests.{last_either, last_dotted, last_grouped}
 use Rattle.report_address.proofs.is_last_number.Goals as goal
 
-pub returns-then-kind-eq0 : goal.returns-then-kind-eq0
-returns-then-kind-eq0 c = let a = c.args in last_either a.kind a.numbers c.if-kind-eq0.true
+pub returns-in-0 : goal.returns-in-0
+returns-in-0 c = last_either c.args.kind c.args.numbers c.in-0.is
 
-pub returns-then-kind-eq1 : goal.returns-then-kind-eq1
-returns-then-kind-eq1 c = let a = c.args in last_dotted a.kind a.numbers c.if-kind-eq1.true
+pub returns-in-1 : goal.returns-in-1
+returns-in-1 c = last_dotted c.args.kind c.args.numbers c.in-1.is
 
-pub returns : goal.returns
-returns c = let a = c.args in last_grouped a.kind a.numbers c.if-kind-eq0.false c.if-kind-eq1.false
+pub returns-in_default : goal.returns-in_default
+returns-in_default c =
+    let k = c.args.kind in
+    last_grouped k c.args.numbers (λ (e : k ≡ 0). omega arith) (λ (e : k ≡ 1). omega arith)

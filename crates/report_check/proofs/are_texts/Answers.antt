@@ -1,32 +1,27 @@
 -- `report_check::are_texts` meets its contract.
-use mathlib.Core.Bool.{not}
-use mathlib.Core.Path.{ap}
-use Rattle.report_check.proofs.FaultLaws.{no_organization, no_email, bad_organization, bad_email, by_contact}
+use Rattle.std.proofs.Common.{◌≡◌, ◌&&◌, not, arith}
+use Rattle.std.proofs.lemmas.Grind.{common_steps}
+use Rattle.octets.specs.Octets.{is_empty}
+use Rattle.report.specs.Report.{good_text, good_texts}
+use Rattle.report_check.proofs.FaultLaws.{empty_test}
 use Rattle.report_check.proofs.are_texts.Goals as goal
 
-pub returns-then-organization-eq0 : goal.returns-then-organization-eq0
-returns-then-organization-eq0 c =
+pub returns-then-is_text-2 : goal.returns-then-is_text-2
+unfolding good_texts
+returns-then-is_text-2 c =
     let a = c.args in
-    no_organization a.organization.now a.email.now a.contact.now c.if-organization-eq0.true
+    let first : c.if-not-is_empty.value ≡ (not (is_empty a.organization.now) && not (is_empty a.email.now)) = grind (arith, common_steps, empty_test a.organization.now, empty_test a.email.now) in
+    let second : c.if-not-is_empty-2.value ≡ (c.if-not-is_empty.value && good_text a.organization.now) = grind (arith, common_steps) in
+    let third : c.if-is_text.value ≡ (c.if-not-is_empty-2.value && good_text a.email.now) = grind (arith, common_steps) in
+    let all : good_texts a.organization.now a.email.now a.contact.now ≡ (c.if-is_text.value && good_text a.contact.now) = rw (third, second, first) in
+    rw (all, c.if-is_text-2.true, c.is_text-then-is_text-2.ensures)
 
-pub returns-then-email-eq0 : goal.returns-then-email-eq0
-returns-then-email-eq0 c =
+pub returns-else-is_text-2 : goal.returns-else-is_text-2
+unfolding good_texts
+returns-else-is_text-2 c =
     let a = c.args in
-    no_email a.organization.now a.email.now a.contact.now c.if-organization-eq0.false c.if-email-eq0.true
-
-pub returns-then-not-is_text : goal.returns-then-not-is_text
-returns-then-not-is_text c =
-    let a = c.args in
-    bad_organization a.organization.now a.email.now a.contact.now c.if-organization-eq0.false c.if-email-eq0.false c.is_text.ensures (ap not c.if-not-is_text.true)
-
-pub returns-then-not-is_text-2 : goal.returns-then-not-is_text-2
-returns-then-not-is_text-2 c =
-    let a = c.args in
-    bad_email a.organization.now a.email.now a.contact.now c.if-organization-eq0.false c.if-email-eq0.false c.is_text.ensures (ap not c.if-not-is_text.false)
-    c.is_text-2.ensures (ap not c.if-not-is_text-2.true)
-
-pub returns : goal.returns
-returns c =
-    let a = c.args in
-    by_contact a.organization.now a.email.now a.contact.now c.if-organization-eq0.false c.if-email-eq0.false c.is_text.ensures (ap not c.if-not-is_text.false)
-    c.is_text-2.ensures (ap not c.if-not-is_text-2.false) c.is_text-3.ensures
+    let first : c.if-not-is_empty.value ≡ (not (is_empty a.organization.now) && not (is_empty a.email.now)) = grind (arith, common_steps, empty_test a.organization.now, empty_test a.email.now) in
+    let second : c.if-not-is_empty-2.value ≡ (c.if-not-is_empty.value && good_text a.organization.now) = grind (arith, common_steps) in
+    let third : c.if-is_text.value ≡ (c.if-not-is_empty-2.value && good_text a.email.now) = grind (arith, common_steps) in
+    let all : good_texts a.organization.now a.email.now a.contact.now ≡ (c.if-is_text.value && good_text a.contact.now) = rw (third, second, first) in
+    rw (all, c.if-is_text-2.false)

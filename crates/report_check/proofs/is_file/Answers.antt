@@ -1,22 +1,23 @@
 -- `report_check::is_file` meets its contract.
-use mathlib.Core.Path.{sym, ◌∙◌}
+use Rattle.std.proofs.Common.{◌≡◌, ◌&&◌, leb, arith}
+use Rattle.std.proofs.lemmas.Grind.{common_steps}
+use Rattle.domain.specs.Domain.{is_domain}
 use Rattle.reporting.specs.FileName.{alphanumeric, good_id}
-use Rattle.report_check.proofs.FaultLaws.{bad_domain, bad_id, by_times}
+use Rattle.report.specs.Report.{good_file}
 use Rattle.report_check.proofs.is_file.Goals as goal
 
-pub returns-then-not-is_domain : goal.returns-then-not-is_domain
-returns-then-not-is_domain c =
+pub returns-then-is_made_of : goal.returns-then-is_made_of
+unfolding good_file good_id alphanumeric
+returns-then-is_made_of c =
     let a = c.args in
-    bad_domain a.domain.now a.id.now a.begin a.end (sym c.is_domain.ensures ∙ c.if-not-is_domain.true)
+    let first : c.if-is_domain.value ≡ (is_domain a.domain.now && good_id a.id.now) = grind (arith, common_steps) in
+    let all : good_file a.domain.now a.id.now a.begin a.end ≡ (c.if-is_domain.value && leb a.begin a.end) = rw first in
+    rw (all, c.if-is_made_of.true)
 
-pub returns-then-not-is_made_of : goal.returns-then-not-is_made_of
-unfolding good_id alphanumeric
-returns-then-not-is_made_of c =
+pub returns-else-is_made_of : goal.returns-else-is_made_of
+unfolding good_file good_id alphanumeric
+returns-else-is_made_of c =
     let a = c.args in
-    bad_id a.domain.now a.id.now a.begin a.end (sym c.is_domain.ensures ∙ c.if-not-is_domain.false) (sym c.is_made_of.ensures ∙ c.if-not-is_made_of.true)
-
-pub returns : goal.returns
-unfolding good_id alphanumeric
-returns c =
-    let a = c.args in
-    by_times a.domain.now a.id.now a.begin a.end (sym c.is_domain.ensures ∙ c.if-not-is_domain.false) (sym c.is_made_of.ensures ∙ c.if-not-is_made_of.false)
+    let first : c.if-is_domain.value ≡ (is_domain a.domain.now && good_id a.id.now) = grind (arith, common_steps) in
+    let all : good_file a.domain.now a.id.now a.begin a.end ≡ (c.if-is_domain.value && leb a.begin a.end) = rw first in
+    rw (all, c.if-is_made_of.false)

@@ -1,8 +1,9 @@
 -- Where a word leads, by its node's number and its place among the node's words.
-use Rattle.std.specs.Prelude.{◌≡◌, List, [], ◌∷◌, Bool, true, false, ℕ, ◌+◌, ◌-◌, ◌≤◌, ◌<◌, eqb, leb, get_or, if◌then◌else◌}
+use Rattle.std.specs.Prelude.{◌≡◌, [], ◌∷◌, Bool, false, ℕ, ◌-◌, ◌≤◌, ◌<◌, eqb, get_or, if◌then◌else◌, Result}
 use Rattle.octets.specs.Octets.{flag, between}
 use Rattle.report_states.specs.Standing.{Word, w_more, word_goes}
 use Rattle.report_words.specs.code.Table.{word_nodes}
+use Rattle.report_steps.specs.declared.Refusal.{Refusal}
 use Rattle.report_kept.specs.declared.ReaderState.{ReaderState}
 use Rattle.report_kept.specs.declared.Turn.{Turn}
 use Rattle.report_kept.specs.code.View.{is_broken, Turned, Leaves, flagged, judged}
@@ -53,11 +54,11 @@ chosen_by n k s =
     else s
 
 -- behind a word, and an octet of one
-abbrev pub LeavesWord : ReaderState → (k : ℕ) → Turn → Type 0
+abbrev pub LeavesWord : ReaderState → (k : ℕ) → Result Turn Refusal → Type 0
 LeavesWord s k r = 36 ≤ s.node → s.node < 52 → is_broken s.node s.identifiers ≡ false → Leaves s (λ o. word_goes (word_of s.node) o k) r
 
-abbrev pub BeginsWord : ReaderState → (x : ℕ) → Turn → Type 0
+abbrev pub BeginsWord : ReaderState → (x : ℕ) → Result Turn Refusal → Type 0
 BeginsWord s x r = s.which ≡ 0 → 36 ≤ s.node → s.node < 52 → is_broken s.node s.identifiers ≡ false → Turned s false x r
 
-abbrev pub TurnsWord : ReaderState → (x : ℕ) → Turn → Type 0
+abbrev pub TurnsWord : ReaderState → (x : ℕ) → Result Turn Refusal → Type 0
 TurnsWord s x r = 36 ≤ s.node → s.node < 52 → is_broken s.node s.identifiers ≡ false → Turned s false x r

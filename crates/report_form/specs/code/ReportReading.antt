@@ -1,6 +1,5 @@
 -- Reading an aggregate report (document 02, Ask 10): the program that reads Ask 9's form.
-use Rattle.std.specs.Prelude.{List, [], ◌∷◌, ◌++◌, Bool, true, false, ◌&&◌, ◌||◌, not, ℕ, zero, suc, ◌+◌, ◌-◌, ◌*◌, eqb, leb, ltb, length, if◌then◌else◌}
-use Rattle.std.proofs.Math.Option.{Option, none as nothing, some as just}
+use Rattle.std.specs.Prelude.{List, [], ◌∷◌, ◌++◌, Bool, true, false, ◌&&◌, ◌||◌, not, ℕ, zero, suc, ◌+◌, ◌-◌, ◌*◌, eqb, leb, ltb, length, if◌then◌else◌, Option, None, Some}
 use Prim.Native.String.{String}
 use Rattle.octets.specs.Octets.{Octets, octets, same, between, is_digit, one_of}
 use Rattle.octets.specs.Refusing.{OrRefused}
@@ -80,12 +79,12 @@ id = id_from 64 false
 unfoldable pub digit_refused : (least most value : ℕ) → (some : Bool) → ℕ → Option ℕ
 digit_refused least most value some x =
     if is_digit x && not (some && eqb value 0) && (some || leb least (x - 48))
-    then if leb (value * 10 + (x - 48)) most then nothing else just 21
-    else just 20
+    then if leb (value * 10 + (x - 48)) most then None else Some 21
+    else Some 20
 
 -- it ends at `<`, where it has a digit and passes a test
 unfoldable pub number_refused : (least most : ℕ) → (ends : ℕ → Bool) → (value : ℕ) → (some : Bool) → ℕ → Option ℕ
-number_refused least most ends value some x = if eqb x 60 then (if some && ends value then nothing else just 20) else digit_refused least most value some x
+number_refused least most ends value some x = if eqb x 60 then (if some && ends value then None else Some 20) else digit_refused least most value some x
 
 unfoldable pub digits_more : {R : Type 0} → (digits : ℕ) → (least most : ℕ) → (ends : ℕ → Bool) → (value : ℕ) → (some : Bool) → Reads R ℕ
 digits_more zero least most ends value some = next (number_refused least most ends value some) (λ x. done value)
@@ -162,12 +161,12 @@ goes_on_grouped a x =
 
 -- how many numbers come before the last one
 unfoldable pub last_number : Kind → Option ℕ
-last_number either = nothing
-last_number dotted = just 3
-last_number grouped = just 7
+last_number either = None
+last_number dotted = Some 3
+last_number grouped = Some 7
 
 unfoldable pub is_last : Kind → ℕ → Bool
-is_last kind n = elim (last_number kind) [ nothing ↦ false | just m ↦ eqb n m ]
+is_last kind n = elim (last_number kind) [ None ↦ false | Some m ↦ eqb n m ]
 
 -- whether an octet can end the open number: `<`, `.`, `:`
 unfoldable pub ends_number : Address → ℕ → Bool

@@ -1,12 +1,14 @@
 -- `report_judge::is_line` meets its contract.
-use mathlib.Core.Bool.{not}
-use mathlib.Core.Path.{ap}
-use Rattle.report_judge.proofs.JudgeLaws.{bad_author, by_set}
+use Rattle.std.proofs.Common.{arith}
+use Rattle.std.proofs.lemmas.Grind.{common_steps}
+use Rattle.report.specs.Report.{good_line}
+use Rattle.report_rows.specs.code.Lines.{names_at, line_of}
 use Rattle.report_judge.proofs.is_line.Goals as goal
 
-pub returns-then-not-is_domain : goal.returns-then-not-is_domain
-returns-then-not-is_domain c = bad_author _ c.args.row.now c.author_of.ensures c.is_domain.ensures (ap not c.if-not-is_domain.true)
+pub returns-then-is_domain : goal.returns-then-is_domain
+unfolding good_line line_of names_at
+returns-then-is_domain c = grind (arith, common_steps)
 
-pub returns : goal.returns
-returns c =
-    by_set _ c.args.row.now c.author_of.ensures c.is_domain.ensures (ap not c.if-not-is_domain.false) c.set_of.ensures c.are_identifiers.ensures
+pub returns-else-is_domain : goal.returns-else-is_domain
+unfolding good_line line_of names_at
+returns-else-is_domain c = grind (arith, common_steps)

@@ -7,18 +7,17 @@ returns-then-number_at-eq0 c =
     let a = c.args in
     row_free _ a.row.now a.test c.number_at.ensures c.if-number_at-eq0.true
 
-pub returns-then-test-eq0 : goal.returns-then-test-eq0
-returns-then-test-eq0 c =
+pub returns-in-Free : goal.returns-in-Free
+returns-in-Free c =
     let a = c.args in
-    row_counts _ a.row.now a.test c.number_at.ensures c.if-number_at-eq0.false c.if-test-eq0.true
+    row_counts _ a.row.now a.test c.number_at.ensures c.if-number_at-eq0.false c.in-Free.is
 
-pub returns-then-test-eq1 : goal.returns-then-test-eq1
-returns-then-test-eq1 c =
+pub returns-in-Named : goal.returns-in-Named
+returns-in-Named c =
     let a = c.args in
-    row_named _ a.row.now a.test c.number_at.ensures c.if-number_at-eq0.false c.if-test-eq1.true c.number_at-then-test-eq1.ensures c.number_at-then-test-eq1-2.ensures
-    c.is_named.ensures
+    row_named _ a.row.now a.test c.number_at.ensures c.if-number_at-eq0.false c.in-Named.is c.number_at-author.ensures c.number_at-set.ensures c.is_named.ensures
 
-pub returns : goal.returns
-returns c =
+pub returns-in-Ruled : goal.returns-in-Ruled
+returns-in-Ruled c =
     let a = c.args in
-    row_line _ a.row.now a.test c.number_at.ensures c.if-number_at-eq0.false c.if-test-eq0.false c.if-test-eq1.false c.is_line.ensures
+    row_line _ a.row.now a.test c.number_at.ensures c.if-number_at-eq0.false c.in-Ruled.is c.is_line.ensures

@@ -1,5 +1,5 @@
 -- The program that is left of what a reader keeps; every value of it is read.
-use Rattle.std.specs.Prelude.{◌≡◌, List, [], ◌∷◌, ◌++◌, Bool, true, false, ◌&&◌, ◌||◌, ℕ, zero, suc, ◌+◌, eqb, leb, ltb, length, take, if◌then◌else◌}
+use Rattle.std.specs.Prelude.{◌≡◌, List, [], ◌∷◌, Bool, ◌&&◌, ◌||◌, ℕ, zero, suc, ◌+◌, eqb, leb, length, if◌then◌else◌, Result, Ok, Err}
 use Rattle.octets.specs.Octets.{Octets, is_set, between}
 use Rattle.parsing.specs.Reads.{Reads, give, ◌>>=◌}
 use Rattle.parsing_steps.specs.Stepping.{Step, on, refused, step_of, shut}
@@ -8,6 +8,8 @@ use Rattle.report_form.specs.code.ReportReading.{next_number, either}
 use Rattle.report_states.specs.Chain.{Open, said_open, with_source}
 use Rattle.report_states.specs.Standing.{Goes, Place, Kept, arrive, from_literal, l_source_end, left_at, node_of, disposition_numbered}
 use Rattle.report_source.specs.code.Sources.{source_left, five_zeros}
+use Rattle.report_steps.specs.declared.Refusal.{Refusal}
+use Rattle.report_steps.specs.code.Steps.{refusal_number}
 use Rattle.report_kept.specs.declared.ReaderState.{ReaderState}
 use Rattle.report_kept.specs.declared.Written.{Written}
 use Rattle.report_kept.specs.declared.Turn.{Turn}
@@ -90,17 +92,23 @@ laid_at (suc n) ws [] = []
 laid_at (suc n) ws (x ∷ row) = x ∷ laid_at n ws row
 
 unfoldable pub write : Written → Octets → Octets
-write w row = laid_at w.at (take w.count (w.first ∷ w.second ∷ w.third ∷ w.fourth ∷ [])) row
+write Written.Nothing row = row
+write (Written.One at a) row = laid_at at (a ∷ []) row
+write (Written.Two at a b) row = laid_at at (a ∷ b ∷ []) row
+write (Written.Four at a b c d) row = laid_at at (a ∷ b ∷ c ∷ d ∷ []) row
 
 -- ------------------------------------------------------------------ what an octet says
 
-unfoldable pub turn_step : (says : ℕ) → Said → Reads Said (Unit {0}) → Step Said (Unit {0})
-turn_step says r t = if eqb says 0 then on t else if eqb says 1 then on (give r t) else refused says
+-- the text goes on, a row handed out or not, or it is refused
+unfoldable pub turn_step : Result Turn Refusal → Octets → Step Said (Unit {0})
+turn_step (Ok t) row =
+    if t.gives then on (give (said_in t.state (write t.written row)) (left_in t.state (write t.written row))) else on (left_in t.state (write t.written row))
+turn_step (Err r) row = refused (refusal_number r)
 
 -- an octet, over any octets of the row; whether five groups 0 stand before an open one is told
-abbrev pub Turned : ReaderState → (five : Bool) → (x : ℕ) → Turn → Type 0
+abbrev pub Turned : ReaderState → (five : Bool) → (x : ℕ) → Result Turn Refusal → Type 0
 Turned s five x r = (row : Octets) → length row ≡ 8432 → (s.node ≡ 64 → five_zeros (before_in s.kind s.numbers row) ≡ five)
-    → step_of (left_in s row) x ≡ turn_step r.says (said_in r.state (write r.written row)) (left_in r.state (write r.written row))
+    → step_of (left_in s row) x ≡ turn_step r row
 
 -- ------------------------------------------------------------------ states after an octet
 
@@ -483,17 +491,14 @@ on_source kind numbers digits ten sixteen s = record {
   outcome = s.outcome;
 }
 
-unfoldable pub unwritten : Written
-unwritten = record { at = 0; count = 0; first = 0; second = 0; third = 0; fourth = 0 }
-
-unfoldable pub plain : (says : ℕ) → ReaderState → Turn
-plain says s = record { says = says; state = s; written = unwritten }
+unfoldable pub plain : (gives : Bool) → ReaderState → Turn
+plain gives s = record { gives = gives; state = s; written = Written.Nothing }
 
 -- the ends of the open identifier
 unfoldable pub closing : ReaderState → (kind : ℕ) → Written
-closing s kind = record { at = base s.identifiers + 506; count = 4; first = s.domain; second = s.selector; third = s.outcome; fourth = kind }
+closing s kind = Written.Four (base s.identifiers + 506) s.domain s.selector s.outcome kind
 
 -- what stands behind a node goes on so
-abbrev pub Leaves : (s : ReaderState) → (Open → Goes) → Turn → Type 0
+abbrev pub Leaves : (s : ReaderState) → (Open → Goes) → Result Turn Refusal → Type 0
 Leaves s g r = (row : Octets) → length row ≡ 8432
-    → on (arrive (g (known_of s row))) ≡ turn_step r.says (said_in r.state (write r.written row)) (left_in r.state (write r.written row))
+    → on (arrive (g (known_of s row))) ≡ turn_step r row

@@ -1,11 +1,12 @@
 -- Where a literal leads, by its number and what is known.
-use Rattle.std.specs.Prelude.{◌≡◌, List, [], ◌∷◌, Bool, true, false, ◌||◌, ℕ, ◌+◌, ◌<◌, eqb, leb, ltb, get_or, if◌then◌else◌}
+use Rattle.std.specs.Prelude.{◌≡◌, List, [], ◌∷◌, false, ◌||◌, ℕ, ◌+◌, ◌<◌, eqb, leb, ltb, get_or, if◌then◌else◌, Result, Ok, Err}
 use Rattle.octets.specs.Octets.{is_set}
 use Rattle.report_states.specs.Standing.{Literal, l_feedback, literal_goes}
 use Rattle.report_words.specs.code.Table.{literals}
+use Rattle.report_steps.specs.declared.Refusal.{Refusal}
 use Rattle.report_kept.specs.declared.ReaderState.{ReaderState}
 use Rattle.report_kept.specs.declared.Turn.{Turn}
-use Rattle.report_kept.specs.code.View.{is_broken, Turned, Leaves, arrived, one_more, flagged, plain, closing}
+use Rattle.report_kept.specs.code.View.{is_broken, Turned, Leaves, arrived, one_more, flagged, closing}
 
 unfoldable pub literal_of : ℕ → Literal
 literal_of n = get_or literals n l_feedback
@@ -38,18 +39,18 @@ unfoldable pub flagged_by : (node : ℕ) → ReaderState → ReaderState
 flagged_by n s = if eqb n 18 then flagged 0 s.spf s else if eqb n 20 then flagged s.dkim 0 s else if eqb n 21 then flagged s.dkim 1 s else s
 
 unfoldable pub closed : (kind node : ℕ) → ReaderState → Turn
-closed kind node s = record { says = 0; state = arrived node (one_more s); written = closing s kind }
+closed kind node s = record { gives = false; state = arrived node (one_more s); written = closing s kind }
 
 -- behind an identifier of a kind
 unfoldable pub behind_number : (kind identifiers : ℕ) → ℕ
 behind_number kind n = if eqb kind 1 then results_number n else 33
 
-unfoldable pub closed_if : (kind : ℕ) → ReaderState → Turn
-closed_if kind s = if leb 16 s.identifiers then plain 20 s else closed kind (behind_number kind (s.identifiers + 1)) s
+unfoldable pub closed_if : (kind : ℕ) → ReaderState → Result Turn Refusal
+closed_if kind s = if leb 16 s.identifiers then Err Refusal.Outside else Ok (closed kind (behind_number kind (s.identifiers + 1)) s)
 
 -- behind a literal, and an octet of one
-abbrev pub LeavesLiteral : ReaderState → Turn → Type 0
+abbrev pub LeavesLiteral : ReaderState → Result Turn Refusal → Type 0
 LeavesLiteral s r = s.node < 36 → is_broken s.node s.identifiers ≡ false → Leaves s (literal_goes (literal_of s.node)) r
 
-abbrev pub TurnsLiteral : ReaderState → (x : ℕ) → Turn → Type 0
+abbrev pub TurnsLiteral : ReaderState → (x : ℕ) → Result Turn Refusal → Type 0
 TurnsLiteral s x r = s.node < 36 → is_broken s.node s.identifiers ≡ false → Turned s false x r

@@ -1,10 +1,11 @@
 -- What an octet of a name says to a reader's state.
-use Rattle.std.specs.Prelude.{◌≡◌, ◌⊎◌, Bool, true, false, ℕ, ◌+◌, ◌≤◌, ◌<◌, eqb, leb, if◌then◌else◌}
+use Rattle.std.specs.Prelude.{◌≡◌, ◌⊎◌, false, ℕ, ◌≤◌, ◌<◌, eqb, leb, if◌then◌else◌, Result}
+use Rattle.report_steps.specs.declared.Refusal.{Refusal}
 use Rattle.report_kept.specs.declared.ReaderState.{ReaderState}
 use Rattle.report_kept.specs.declared.Turn.{Turn}
 use Rattle.report_kept.specs.code.View.{name_at, is_broken, Turned, arrived, named}
 
-abbrev pub TurnsName : ReaderState → (x : ℕ) → Turn → Type 0
+abbrev pub TurnsName : ReaderState → (x : ℕ) → Result Turn Refusal → Type 0
 TurnsName s x r = 59 ≤ s.node → s.node < 64 → is_broken s.node s.identifiers ≡ false → Turned s false x r
 
 -- at most 253 octets

@@ -1,5 +1,6 @@
 use Prim.Native.Nat.{◌-◌}
 use native.Mathlib.Omega.{arith}
+use Rattle.report_steps.specs.code.Steps.{refusal_number}
 use Rattle.report_reader.proofs.ReaderLaws.{ends_stuck, ends_well, ends_early}
 use Rattle.report_reader.proofs.end.Goals as goal
 
@@ -13,4 +14,5 @@ returns-then-s-ge-LAST c = ends_well c.args.s c.if-s-ne0.false c.if-s-ge-LAST.tr
 
 -- src/lib.rt:78:1
 pub returns : goal.returns
+unfolding refusal_number
 returns c = ends_early c.args.s _ c.stop.ensures c.if-s-ne0.false (omega (arith, c.if-s-ge-LAST.false))

@@ -7,4 +7,4 @@ pub returns : goal.returns
 unfolding octets
 returns c =
     let a = c.args in
-    spf_puts a.out.now a.at a.domain.now a.outcome c.put-first.ensures c.put_lower_then-second.ensures c.put_result.ensures
+    spf_puts a.out.now a.at a.domain.now a.outcome c.put-first.ensures c.put_lower_then-second.ensures (rw c.outcome_word.ensures at c.put_then.ensures)

@@ -8,8 +8,8 @@ returns-then-kind-eq1 c =
     is_dkim a.body.now a.out.now a.at c.octet_at-kind.ensures a.dkim c.if-dkim.true c.if-kind-eq1.true c.octet_at-outcome.ensures
     c.domain_in.ensures c.selector_in.ensures c.put_dkim.ensures
 
-pub returns-then-dkim : goal.returns-then-dkim
-returns-then-dkim c =
+pub returns-else-kind-eq1 : goal.returns-else-kind-eq1
+returns-else-kind-eq1 c =
     let a = c.args in
     not_dkim a.body.now a.out.now a.at c.octet_at-kind.ensures a.dkim c.if-dkim.true c.if-kind-eq1.false
 
@@ -19,7 +19,7 @@ returns-then-kind-eq0 c =
     is_spf a.body.now a.out.now a.at c.octet_at-kind.ensures a.dkim c.if-dkim.false c.if-kind-eq0.true c.octet_at-outcome.ensures
     c.domain_in-then-kind-eq0.ensures c.put_spf.ensures
 
-pub returns : goal.returns
-returns c =
+pub returns-else-kind-eq0 : goal.returns-else-kind-eq0
+returns-else-kind-eq0 c =
     let a = c.args in
     not_spf a.body.now a.out.now a.at c.octet_at-kind.ensures a.dkim c.if-dkim.false c.if-kind-eq0.false

@@ -1,22 +1,12 @@
 -- `report_runs::run_name` meets its contract.
 use mathlib.Core.Path.{sym, ◌∙◌}
 use native.Mathlib.Omega.{arith}
-use borrow.Author.Rules.{rules}
 use Rattle.report_taken.specs.code.Taking.{largest}
 use Rattle.report_runs.proofs.RunLaws.{none_runs, name_open, name_runs, counts_on}
 use Rattle.report_runs.proofs.run_name.Goals as goal
 
 pub returns-then-node-lt60 : goal.returns-then-node-lt60
 returns-then-node-lt60 c = let a = c.args in none_runs a.s a.rest.now a.row.now
-
-pub returns-then-node-ge64 : goal.returns-then-node-ge64
-returns-then-node-ge64 c = let a = c.args in none_runs a.s a.rest.now a.row.now
-
-pub returns-then-cannot_be : goal.returns-then-cannot_be
-returns-then-cannot_be c = let a = c.args in none_runs a.s a.rest.now a.row.now
-
-pub overflow_add-s : goal.overflow_add-s
-overflow_add-s c = let few = c.copy_name-run.ensures.0 in search (rules, few)
 
 pub end_name-requires : goal.end_name-requires
 unfolding largest

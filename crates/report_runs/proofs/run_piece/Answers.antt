@@ -1,18 +1,11 @@
 -- `report_runs::run_piece` meets its contract.
 use native.Mathlib.Omega.{arith}
-use borrow.Author.Rules.{rules}
 use Rattle.report_taken.specs.code.Taking.{largest}
 use Rattle.report_runs.proofs.RunLaws.{none_runs, piece_runs, counts_on}
 use Rattle.report_runs.proofs.run_piece.Goals as goal
 
-pub returns-then-number : goal.returns-then-number
-returns-then-number c = let a = c.args in λ table. none_runs a.s a.rest.now a.row.now
-
-pub overflow_add-s : goal.overflow_add-s
-overflow_add-s c = let few = c.count_matching-k.ensures.few in search (rules, few)
-
-pub overflow_add-at : goal.overflow_add-at
-overflow_add-at c = let room = c.count_matching-k.ensures.room in search (rules, room)
+pub returns-in_default : goal.returns-in_default
+returns-in_default c = let a = c.args in λ table. none_runs a.s a.rest.now a.row.now
 
 pub end_piece-requires : goal.end_piece-requires
 unfolding largest
@@ -24,4 +17,4 @@ end_piece-requires c =
 pub returns : goal.returns
 returns c =
     let a = c.args in
-    piece_runs a.texts.now a.begins.now a.s a.rest.now a.row.now _ _ _ _ _ _ c.requires c.find_open-number.ensures c.if-number.false c.find_piece-text.ensures c.count_matching-k.ensures c.move_on.ensures c.end_piece.ensures
+    piece_runs a.texts.now a.begins.now a.s a.rest.now a.row.now _ _ _ _ _ _ c.requires c.in-Some.ensures c.find_piece-text.ensures c.count_matching-k.ensures c.move_on.ensures c.end_piece.ensures

@@ -1,12 +1,16 @@
 -- What octets of one literal, word or name leave of a reader.
-use Rattle.std.specs.Prelude.{◌≡◌, false, ℕ, ◌+◌, ◌-◌, ◌≤◌, ◌<◌, length, take, get_or}
+use Rattle.std.specs.Prelude.{◌≡◌, false, ℕ, ◌+◌, ◌-◌, ◌≤◌, ◌<◌, length, take, get_or, Option, None, Some, Result, Ok}
 use mathlib.Core.List.{List, [], flatten}
 use Rattle.octets.specs.Octets.{Octets}
 use Rattle.octets_pieces.specs.code.Pieces.{starts}
 use Rattle.parsing.specs.Reads.{feed}
 use Rattle.parsing_steps.specs.Stepping.{step_of, behind}
 use Rattle.report_form.specs.ReportForm.{Said}
-use Rattle.report_leaves.specs.code.Leaves.{meant, Names}
+use Rattle.report_leaves.specs.code.Leaves.{said, Names}
+use Rattle.report_leaves.specs.declared.NamePlace.{NamePlace}
+use Rattle.report_steps.specs.declared.Leaf.{Leaf}
+use Rattle.report_steps.specs.declared.Refusal.{Refusal}
+use Rattle.report_kept.specs.declared.Written.{Written}
 use Rattle.report_words.specs.code.Table.{texts}
 use Rattle.report_kept.specs.declared.ReaderState.{ReaderState}
 use Rattle.report_kept.specs.declared.Turn.{Turn}
@@ -65,10 +69,10 @@ Longer q rest row r after = q.used ≤ length rest
 
 -- an octet goes on within a text, and ends it
 abbrev pub GoesOn : (text : Octets) → (at x : ℕ) → Type 0
-GoesOn text at x = step_of (behind {R = Said} at text) x ≡ meant 0 (behind (at + 1) text) tt
+GoesOn text at x = step_of (behind {R = Said} at text) x ≡ said (λ (_ : Unit {0}). behind (at + 1) text) tt (Ok (Leaf.More tt))
 
 abbrev pub Ended : (text : Octets) → (at x : ℕ) → Type 0
-Ended text at x = step_of (behind {R = Said} at text) x ≡ meant 1 (behind (at + 1) text) tt
+Ended text at x = step_of (behind {R = Said} at text) x ≡ said (λ (_ : Unit {0}). behind (at + 1) text) tt (Ok Leaf.Ended)
 
 pub record Matches (text : Octets) (at : ℕ) (rest : Octets) (k : ℕ) : Type 0 where
   pub few : k ≤ 116
@@ -78,33 +82,34 @@ pub record Matches (text : Octets) (at : ℕ) (rest : Octets) (k : ℕ) : Type 0
 
 -- behind a literal that only leads on
 abbrev pub LeadsOn : ReaderState → Turn → Type 0
-LeadsOn s r = r ≡ plain 0 (arrived (next_number_of s.node s.disposition s.dkim s.identifiers s.left) s)
+LeadsOn s r = r ≡ plain false (arrived (next_number_of s.node s.disposition s.dkim s.identifiers s.left) s)
 
 -- behind the literal or word that is open
-abbrev pub LeavesPiece : ReaderState → Turn → Type 0
+abbrev pub LeavesPiece : ReaderState → Result Turn Refusal → Type 0
 LeavesPiece s r = LeavesLiteral s r × ((s.which ≡ 0 → ⊥) → LeavesWord s (s.which - 1) r)
 
 -- a text is open, and so its octets and its end are a reader's
 pub record OpenText (s : ReaderState) (text : Octets) : Type 0 where
   pub apart : s.node < 64
   pub goes : (taken at x : ℕ) → GoesOn text at x
-      → Turned (onward taken at s.length s.label s) false x (plain 0 (onward taken (at + 1) s.length s.label s))
-  pub ends : (taken at x : ℕ) (r : Turn) → Ended text at x → LeavesPiece (onward taken at s.length s.label s) r
+      → Turned (onward taken at s.length s.label s) false x (Ok (plain false (onward taken (at + 1) s.length s.label s)))
+  pub ends : (taken at x : ℕ) (r : Result Turn Refusal) → Ended text at x → LeavesPiece (onward taken at s.length s.label s) r
       → Turned (onward taken at s.length s.label s) false x r
 
--- the text of that number is open, where it is not 255
-abbrev pub OpenPiece : ReaderState → (number : ℕ) → Type 0
-OpenPiece s n = (n ≡ 255 → ⊥) → OpenText s (get_or texts n [])
+-- the text of that number is open, where there is one
+unfoldable pub OpenPiece : ReaderState → (number : Option ℕ) → Type 0
+OpenPiece s None = Unit {0}
+OpenPiece s (Some n) = OpenText s (get_or texts n [])
 
 -- a run within a text, or a name, and the octet that ends it
 abbrev pub AtEnd : (text : Octets) → ReaderState → Type 0
-AtEnd text s = (s.node < 64) × (s.refused ≡ 0) × ((x : ℕ) (r : Turn) → Ended text s.at x → LeavesPiece s r → Turned s false x r)
+AtEnd text s = (s.node < 64) × (s.refused ≡ 0) × ((x : ℕ) (r : Result Turn Refusal) → Ended text s.at x → LeavesPiece s r → Turned s false x r)
 
 abbrev pub EndsPiece : (text : Octets) → Run → (rest row : Octets) → Run → (after : Octets) → Type 0
 EndsPiece text q rest row r after = AtEnd text q.state → Longer q rest row r after
 
 abbrev pub AtNameEnd : ReaderState → Type 0
-AtNameEnd s = (s.node < 64) × (s.refused ≡ 0) × ((x length label : ℕ) → Names s.length s.label x 1 length label → Turned s false x (plain 0 (name_left_at s)))
+AtNameEnd s = (s.node < 64) × (s.refused ≡ 0) × ((x : ℕ) → Names s.length s.label x (Ok Leaf.Ended) → Turned s false x (Ok (plain false (name_left_at s))))
 
 abbrev pub EndsName : Run → (rest : Octets) → Run → Type 0
 EndsName q rest r = AtNameEnd q.state → (row : Octets) → Longer q rest row r row
@@ -119,15 +124,10 @@ RunsPiece all begins s rest row r after = IsTable all begins → Advances s rest
 -- a name is open, and stands from a place of the row on
 pub record OpenName (s : ReaderState) (place : ℕ) : Type 0 where
   pub apart : s.node < 64
-  pub goes : (taken length label x length_after label_after : ℕ)
-      → Names length label x 0 length_after label_after → (length_after ≡ length + 1) × (length < 253)
-      → Turned (onward taken s.at length label s) false x (record {
-        says = 0;
-        state = onward taken s.at length_after label_after s;
-        written = record { at = place + length; count = 1; first = x; second = 0; third = 0; fourth = 0 };
-      })
-  pub ends : (taken length label x length_after label_after : ℕ) → Names length label x 1 length_after label_after
-      → Turned (onward taken s.at length label s) false x (plain 0 (name_left_at (onward taken s.at length label s)))
+  pub goes : (taken length label x : ℕ) (q : NamePlace) → Names length label x (Ok (Leaf.More q)) → (q.length ≡ length + 1) × (length < 253)
+      → Turned (onward taken s.at length label s) false x (Ok (record { gives = false; state = onward taken s.at q.length q.label s; written = Written.One (place + length) x }))
+  pub ends : (taken length label x : ℕ) → Names length label x (Ok Leaf.Ended)
+      → Turned (onward taken s.at length label s) false x (Ok (plain false (name_left_at (onward taken s.at length label s))))
 
 pub record Copied (s : ReaderState) (rest row : Octets) (r : NameRun) (after : Octets) : Type 0 where
   pub within : r.used ≤ length rest

@@ -1,5 +1,5 @@
 -- An open address by its numbers, every value of which is read: those that no text leads to take no octet.
-use Rattle.std.specs.Prelude.{◌≡◌, List, [], ◌∷◌, ◌++◌, ◌⊎◌, Bool, true, false, ◌&&◌, ℕ, ◌+◌, ◌*◌, ◌≤◌, ◌<◌, eqb, leb, ltb, length, get_or, if◌then◌else◌}
+use Rattle.std.specs.Prelude.{◌≡◌, List, [], ◌∷◌, ◌++◌, ◌⊎◌, Bool, true, false, ◌&&◌, ℕ, ◌+◌, ◌*◌, ◌≤◌, ◌<◌, eqb, leb, ltb, length, get_or, if◌then◌else◌, Result, Ok, Err}
 use Rattle.octets.specs.Octets.{Octets, same}
 use Rattle.parsing.specs.Reads.{Reads, done, octet_where}
 use Rattle.parsing_steps.specs.Stepping.{Step, on, refused, step_of}
@@ -7,6 +7,8 @@ use Rattle.report_form.specs.ReportForm.{Said}
 use Rattle.report_form.specs.code.ReportReading.{digit_value, is_last, source_of}
 use Rattle.report_states.specs.Standing.{address_left}
 use Rattle.report_address.specs.code.Addresses.{kind_of, address_of}
+use Rattle.report_steps.specs.declared.Refusal.{Refusal}
+use Rattle.report_steps.specs.code.Steps.{refusal_number}
 use Rattle.report_source.specs.declared.SourceTurn.{SourceTurn}
 
 -- a number of so many hexadecimal digits is below this
@@ -34,24 +36,19 @@ source_left kind digits ten sixteen before =
 unfoldable pub five_zeros : List ℕ → Bool
 five_zeros before = same before (0 ∷ 0 ∷ 0 ∷ 0 ∷ 0 ∷ [])
 
-unfoldable pub refused_turn : SourceTurn
-refused_turn = record { says = 20; kind = 0; digits = 0; ten = 0; sixteen = 0; value = 0 }
-
 unfoldable pub grown : (kind digits ten sixteen x : ℕ) → SourceTurn
-grown kind digits ten sixteen x = record {
-  says = 0;
+grown kind digits ten sixteen x = SourceTurn.More (record {
   kind = kind;
   digits = digits + 1;
   ten = ten * 10 + digit_value x;
   sixteen = sixteen * 16 + digit_value x;
-  value = 0;
-}
+})
 
 unfoldable pub number_ended : (ten sixteen x : ℕ) → SourceTurn
 number_ended ten sixteen x =
-    if eqb x 60 then record { says = 1; kind = 0; digits = 0; ten = 0; sixteen = 0; value = 0 }
-    else if eqb x 46 then record { says = 2; kind = 1; digits = 0; ten = 0; sixteen = 0; value = ten }
-    else record { says = 2; kind = 2; digits = 0; ten = 0; sixteen = 0; value = sixteen }
+    if eqb x 60 then SourceTurn.Ended
+    else if eqb x 46 then SourceTurn.Number 1 ten
+    else SourceTurn.Number 2 sixteen
 
 -- what an octet says: 0 a digit more, 1 the address has ended, 2 a number has, 20 refused; the kind, and either the open number then or the one that has ended
 unfoldable pub source_turn : (says kind digits ten sixteen value : ℕ) → (source : Octets) → (before : List ℕ) → Step Said Octets
@@ -75,9 +72,11 @@ number_told kind numbers ten sixteen kind' value =
     ⊎ ((kind' ≡ 2) × (value ≡ sixteen) × (numbers < 7) × (kind ≡ 1 → ⊥))
 
 -- by a turn: a digit more leaves the numbers before as they are, and an address ends behind its last number
-abbrev pub Turns : (kind numbers : ℕ) → (five : Bool) → (digits ten sixteen x : ℕ) → SourceTurn → Type 0
-Turns kind numbers five digits ten sixteen x r =
-    Sources kind numbers five digits ten sixteen x r.says r.kind r.digits r.ten r.sixteen r.value
-    × (r.says ≡ 1 → (is_last (kind_of kind) numbers ≡ true) × (kind ≡ 1 → ten ≤ 255))
-    × (r.says ≡ 0 → eqb r.kind 1 ≡ eqb kind 1)
-    × (r.says ≡ 2 → number_told kind numbers ten sixteen r.kind r.value)
+unfoldable pub Turns : (kind numbers : ℕ) → (five : Bool) → (digits ten sixteen x : ℕ) → Result SourceTurn Refusal → Type 0
+Turns kind numbers five digits ten sixteen x (Ok (SourceTurn.More n)) =
+    Sources kind numbers five digits ten sixteen x 0 n.kind n.digits n.ten n.sixteen 0 × (eqb n.kind 1 ≡ eqb kind 1)
+Turns kind numbers five digits ten sixteen x (Ok SourceTurn.Ended) =
+    Sources kind numbers five digits ten sixteen x 1 0 0 0 0 0 × (is_last (kind_of kind) numbers ≡ true) × (kind ≡ 1 → ten ≤ 255)
+Turns kind numbers five digits ten sixteen x (Ok (SourceTurn.Number kind' value)) =
+    Sources kind numbers five digits ten sixteen x 2 kind' 0 0 0 value × number_told kind numbers ten sixteen kind' value
+Turns kind numbers five digits ten sixteen x (Err r) = Sources kind numbers five digits ten sixteen x (refusal_number r) 0 0 0 0 0

@@ -18,7 +18,7 @@ returns-then-low-gt15 c =
     let a = c.args in
     two_digits a.high a.low (omega arith) c.if-high-gt0.false c.if-low-gt15.true
 
-pub returns : goal.returns
-returns c =
+pub returns-else-low-gt15 : goal.returns-else-low-gt15
+returns-else-low-gt15 c =
     let a = c.args in
     one_digit a.high a.low (omega arith) c.if-high-gt0.false c.if-low-gt15.false

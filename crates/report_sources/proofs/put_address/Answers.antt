@@ -15,7 +15,7 @@ loop-t-init c =
 
 pub loop-t-preserved : goal.loop-t-preserved
 loop-t-preserved c =
-    group_put c.loop-t.t.now c.loop-t.invariant c.loop-t-test.true c.put_group-next.ensures
+    group_put c.loop-t.t.now c.loop-t.invariant c.loop-t-test.true c.put_group-end.ensures
 
 pub shape_of-out : goal.shape_of-out
 shape_of-out c = c.loop-t.invariant.kept

@@ -11,7 +11,7 @@ pub loop-t-preserved : goal.loop-t-preserved
 unfolding octets
 loop-t-preserved c =
     octet_put c.loop-t.t.now c.loop-t.invariant c.loop-t-test.true c.octet_at-number.ensures (omega arith) c.part-mark.ensures
-    c.put_decimal_then-next.ensures
+    c.put_decimal_then-end.ensures
 
 pub shape_of-out : goal.shape_of-out
 shape_of-out c = c.loop-t.invariant.going.kept

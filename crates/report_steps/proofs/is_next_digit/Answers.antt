@@ -1,15 +1,17 @@
 -- `report_steps::is_next_digit` meets its contract.
-use Rattle.report_steps.proofs.StepLaws.{too_low, too_high, behind, at_first}
+use mathlib.Core.Path.{sym, ◌∙◌}
+use Rattle.octets.specs.Octets.{is_digit, between}
+use Rattle.report_steps.proofs.StepLaws.{no_digit, behind, at_first}
 use Rattle.report_steps.proofs.is_next_digit.Goals as goal
 
-pub returns-then-x-lt48 : goal.returns-then-x-lt48
-returns-then-x-lt48 c = let a = c.args in too_low a.least a.value a.some a.x c.if-x-lt48.true
+pub returns-in-Some : goal.returns-in-Some
+unfolding is_digit between
+returns-in-Some c = let a = c.args in behind a.least a.so_far a.x c.in-Some.value (sym c.is_ascii_digit.ensures.value ∙ c.if-is_ascii_digit.true) c.in-Some.is
 
-pub returns-then-x-gt57 : goal.returns-then-x-gt57
-returns-then-x-gt57 c = let a = c.args in too_high a.least a.value a.some a.x c.if-x-gt57.true
+pub returns-in-None : goal.returns-in-None
+unfolding is_digit between
+returns-in-None c = let a = c.args in at_first a.least a.so_far a.x (sym c.is_ascii_digit.ensures.value ∙ c.if-is_ascii_digit.true) c.in-None.is
 
-pub returns-then-some : goal.returns-then-some
-returns-then-some c = let a = c.args in behind a.least a.value a.some a.x c.if-x-lt48.false c.if-x-gt57.false c.if-some.true
-
-pub returns : goal.returns
-returns c = let a = c.args in at_first a.least a.value a.some a.x c.if-x-lt48.false c.if-x-gt57.false c.if-some.false
+pub returns-else-is_ascii_digit : goal.returns-else-is_ascii_digit
+unfolding is_digit between
+returns-else-is_ascii_digit c = let a = c.args in c.if-is_ascii_digit.false ∙ no_digit a.least a.so_far a.x (sym c.is_ascii_digit.ensures.value ∙ c.if-is_ascii_digit.false)

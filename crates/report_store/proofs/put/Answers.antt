@@ -1,47 +1,36 @@
-use Prim.Native.Nat.{◌+◌, ◌-◌}
-use mathlib.Core.Path.{ap, ◌∙◌}
+-- `report_store::put` meets its contract.
+use mathlib.Core.Path.{◌≡◌, sym, ap, ◌∙◌}
 use mathlib.Core.List.{[], ◌∷◌}
+use Prim.Native.Nat.{◌+◌}
 use Rattle.octets.specs.Octets.{Octets}
-use Rattle.report_kept.specs.code.View.{laid_at}
-use Rattle.report_store.proofs.StoreLaws.{writes_none, writes_one, writes_two, writes_three, writes_four}
+use Rattle.report_kept.specs.code.View.{laid_at, write}
+use Rattle.report_store.proofs.StoreLaws.{writes_two, writes_four}
 use Rattle.report_store.proofs.put.Goals as goal
 
--- src/lib.rt:28:9
-pub returns-then-count-lt1 : goal.returns-then-count-lt1
-returns-then-count-lt1 c = let a = c.args in writes_none a.w a.row.now c.if-count-lt1.true
+pub returns-in-Nothing : goal.returns-in-Nothing
+unfolding write
+returns-in-Nothing c = sym (ap (λ w. write w c.args.row.now) c.in-Nothing.is)
 
--- src/lib.rt:32:9
-pub returns-then-count-lt2 : goal.returns-then-count-lt2
-returns-then-count-lt2 c =
-    let a = c.args in
-    c.put_one.ensures ∙ writes_one a.w a.row.now c.if-count-lt1.false c.if-count-lt2.true
+pub returns-in-One : goal.returns-in-One
+unfolding write
+returns-in-One c = c.put_one.ensures ∙ sym (ap (λ w. write w c.args.row.now) c.in-One.is)
 
--- src/lib.rt:36:9
-pub returns-then-count-lt3 : goal.returns-then-count-lt3
-returns-then-count-lt3 c =
-    let a = c.args in
-    let first = c.put_one.ensures in
-    c.put_one-2.ensures
-    ∙ ap (λ (l : Octets). laid_at (a.w.at + 1) (a.w.second ∷ []) l) first
-    ∙ writes_two a.w a.row.now c.if-count-lt2.false c.if-count-lt3.true
+pub returns-in-Two : goal.returns-in-Two
+returns-in-Two c =
+    let row = c.args.row.now in
+    let w = c.in-Two in
+    c.put_one-in-Two-2.ensures
+    ∙ ap (λ (l : Octets). laid_at (w.at + 1) (w.b ∷ []) l) c.put_one-in-Two.ensures
+    ∙ writes_two w.at row w.a w.b
+    ∙ sym (ap (λ w. write w row) w.is)
 
--- src/lib.rt:40:9
-pub returns-then-count-lt4 : goal.returns-then-count-lt4
-returns-then-count-lt4 c =
-    let a = c.args in
-    let first = c.put_one.ensures in
-    let second = c.put_one-2.ensures ∙ ap (λ (l : Octets). laid_at (a.w.at + 1) (a.w.second ∷ []) l) first in
-    c.put_one-3.ensures
-    ∙ ap (λ (l : Octets). laid_at (a.w.at + 2) (a.w.third ∷ []) l) second
-    ∙ writes_three a.w a.row.now c.if-count-lt3.false c.if-count-lt4.true
-
--- src/lib.rt:22:1
-pub returns : goal.returns
-returns c =
-    let a = c.args in
-    let first = c.put_one.ensures in
-    let second = c.put_one-2.ensures ∙ ap (λ (l : Octets). laid_at (a.w.at + 1) (a.w.second ∷ []) l) first in
-    let third = c.put_one-3.ensures ∙ ap (λ (l : Octets). laid_at (a.w.at + 2) (a.w.third ∷ []) l) second in
-    c.put_one-4.ensures
-    ∙ ap (λ (l : Octets). laid_at (a.w.at + 3) (a.w.fourth ∷ []) l) third
-    ∙ writes_four a.w a.row.now c.if-count-lt4.false
+pub returns-in-Four : goal.returns-in-Four
+returns-in-Four c =
+    let row = c.args.row.now in
+    let w = c.in-Four in
+    let second = c.put_one-in-Four-2.ensures ∙ ap (λ (l : Octets). laid_at (w.at + 1) (w.b ∷ []) l) c.put_one-in-Four.ensures in
+    let third = c.put_one-in-Four-3.ensures ∙ ap (λ (l : Octets). laid_at (w.at + 2) (w.c ∷ []) l) second in
+    c.put_one-in-Four-4.ensures
+    ∙ ap (λ (l : Octets). laid_at (w.at + 3) (w.d ∷ []) l) third
+    ∙ writes_four w.at row w.a w.b w.c w.d
+    ∙ sym (ap (λ w. write w row) w.is)

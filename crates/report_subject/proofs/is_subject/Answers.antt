@@ -1,22 +1,9 @@
 -- `report_subject::is_subject` meets its contract.
-use mathlib.Core.Path.{sym, ◌∙◌}
+use Rattle.std.proofs.Common.{arith}
+use Rattle.std.proofs.lemmas.Grind.{common_steps}
 use Rattle.reporting.specs.FileName.{alphanumeric, good_id}
 use Rattle.report_subject.proofs.is_subject.Goals as goal
 
-pub returns-then-not-is_domain : goal.returns-then-not-is_domain
-returns-then-not-is_domain c = rw (sym c.is_domain.ensures ∙ c.if-not-is_domain.true)
-
-pub returns-then-not-is_domain-2 : goal.returns-then-not-is_domain-2
-returns-then-not-is_domain-2 c =
-    rw (
-      sym c.is_domain.ensures ∙ c.if-not-is_domain.false,
-      sym c.is_domain-2.ensures ∙ c.if-not-is_domain-2.true,
-    )
-
-pub returns : goal.returns
+pub returns-then-is_domain-2 : goal.returns-then-is_domain-2
 unfolding good_id alphanumeric
-returns c =
-    rw (
-      sym c.is_domain.ensures ∙ c.if-not-is_domain.false,
-      sym c.is_domain-2.ensures ∙ c.if-not-is_domain-2.false,
-    ) c.is_made_of.ensures
+returns-then-is_domain-2 c = grind (arith, common_steps)

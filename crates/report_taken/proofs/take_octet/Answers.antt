@@ -1,37 +1,31 @@
-use Prim.Native.Nat.{◌-◌}
+-- `report_taken::take_octet` meets its contract.
 use native.Mathlib.Omega.{arith}
 use mathlib.Core.Path.{sym, subst}
 use mathlib.Core.Bool.{false}
+use Rattle.report_steps.specs.code.Steps.{refusal_number}
 use Rattle.report_taken.specs.code.Taking.{largest, Takes}
 use Rattle.report_taken.proofs.TakeLaws.{takes_stuck, takes_full, takes_refused, takes_on}
 use Rattle.report_taken.proofs.take_octet.Goals as goal
 
--- src/lib.rt:51:9
 pub returns-then-s-ne0 : goal.returns-then-s-ne0
 returns-then-s-ne0 c = let a = c.args in takes_stuck a.s a.row.now a.x c.if-s-ne0.true
 
--- src/lib.rt:57:9
-pub returns-then-taken-ge-LARGEST : goal.returns-then-taken-ge-LARGEST
-unfolding largest
-returns-then-taken-ge-LARGEST c =
+pub returns-then-s-ge-LARGEST : goal.returns-then-s-ge-LARGEST
+unfolding largest refusal_number
+returns-then-s-ge-LARGEST c =
     let a = c.args in
     subst (λ t. Takes a.s a.x a.row.now (record { gives = false; state = t }) a.row.now) (sym c.stop.ensures)
-    (takes_full a.s a.row.now a.x c.if-s-ne0.false c.if-taken-ge-LARGEST.true)
+    (takes_full a.s a.row.now a.x c.if-s-ne0.false c.if-s-ge-LARGEST.true)
 
--- src/lib.rt:66:9
-pub returns-then-says-ge2 : goal.returns-then-says-ge2
+pub returns-in-Ok : goal.returns-in-Ok
 unfolding largest
-returns-then-says-ge2 c =
+returns-in-Ok c =
     let a = c.args in
-    let fives = c.knows_five-five.ensures in
-    subst (λ t. Takes a.s a.x a.row.now (record { gives = false; state = t }) a.row.now) (sym c.stop-then-says-ge2.ensures)
-    (takes_refused a.s _ a.x _ c.step-turn.ensures a.row.now fives c.if-s-ne0.false (omega (arith, c.if-taken-ge-LARGEST.false)) c.if-says-ge2.true)
+    takes_on a.s _ a.x a.row.now c.knows_five-five.ensures c.if-s-ne0.false c.if-s-ge-LARGEST.false _ c.in-Ok.ensures _ _ c.count_on.ensures c.put.ensures
 
--- src/lib.rt:46:1
-pub returns : goal.returns
+pub returns-in-Err : goal.returns-in-Err
 unfolding largest
-returns c =
+returns-in-Err c =
     let a = c.args in
-    let fives = c.knows_five-five.ensures in
-    takes_on a.s _ a.x _ c.step-turn.ensures a.row.now fives c.if-s-ne0.false (omega (arith, c.if-taken-ge-LARGEST.false)) _ _
-    c.count_on.ensures c.put.ensures (omega (arith, c.if-says-ge2.false))
+    subst (λ t. Takes a.s a.x a.row.now (record { gives = false; state = t }) a.row.now) (sym c.stop-in-Err.ensures)
+    (takes_refused a.s _ a.x a.row.now c.knows_five-five.ensures c.if-s-ne0.false c.if-s-ge-LARGEST.false _ c.in-Err.ensures)

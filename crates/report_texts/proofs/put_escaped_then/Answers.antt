@@ -1,22 +1,25 @@
 -- `report_texts::put_escaped_then` meets its contract.
-use native.Mathlib.Omega.{arith}
-use Rattle.report_texts.proofs.TextLaws.{one_more, all_of}
+use Rattle.std.proofs.Common.{◌≡◌, length, arith}
+use Rattle.std.proofs.Math.Seq.{take-length}
 use mathlib.Core.List.{flatten}
-use Prim.Native.Nat.{◌-◌}
-use Rattle.report.specs.Xml.{with_entities}
+use Rattle.report.specs.Xml.{entity, with_entities}
 use Rattle.octets_pieces.proofs.PuttingLaws.{puts_both, puts_nothing}
+use Rattle.octets_pieces.proofs.PieceLaws.{one_more}
 use Rattle.report_texts.proofs.put_escaped_then.Goals as goal
 
-pub loop-i-init : goal.loop-i-init
+pub loop-b-init : goal.loop-b-init
 unfolding with_entities flatten
-loop-i-init c = (omega arith, puts_nothing c.args.out.now c.args.at)
+loop-b-init c = puts_nothing c.args.out.now c.args.at
 
-pub loop-i-preserved : goal.loop-i-preserved
-loop-i-preserved c =
+pub loop-b-preserved : goal.loop-b-preserved
+unfolding with_entities
+loop-b-preserved c =
     let a = c.args in
-    (omega arith, rw (one_more a.text.now c.loop-i.i (omega arith)) (puts_both _ _ a.out.now a.at c.loop-i.invariant.1 c.put_entity-next.ensures))
+    let m = c.loop-b in
+    rw (one_more entity a.text.now m.b-index 0 (omega arith)) (puts_both _ _ a.out.now a.at m.invariant c.put_entity-end.ensures)
 
 pub returns : goal.returns
 returns c =
     let a = c.args in
-    puts_both _ _ a.out.now a.at (rw (all_of a.text.now c.loop-i.i (omega arith)) at c.loop-i.invariant.1) c.put.ensures
+    let all : c.loop-b.b-index ≡ length a.text.now = omega arith in
+    puts_both _ _ a.out.now a.at (rw (all, take-length) at c.loop-b.invariant) c.put.ensures

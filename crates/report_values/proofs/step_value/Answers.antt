@@ -1,9 +1,13 @@
 -- `report_values::step_value` meets its contract.
-use Rattle.report_values.proofs.ValueLaws.{with_digits, without_digits}
+use mathlib.Core.Path.{sym, ap, ◌∙◌}
+use Rattle.std.specs.Prelude.{true}
+use Rattle.std.specs.Option.{unwrap_or}
+use Rattle.report_states.specs.Standing.{number_left}
+use Rattle.report_leaves.specs.code.Leaves.{said}
+use Rattle.report_values.proofs.ValueLaws.{value_said}
 use Rattle.report_values.proofs.step_value.Goals as goal
 
-pub returns-then-some : goal.returns-then-some
-returns-then-some c = let a = c.args in with_digits a.least a.most a.floor a.value a.some a.x c.if-some.true _ c.step_number.ensures
-
 pub returns : goal.returns
-returns c = let a = c.args in without_digits a.least a.most a.floor a.value a.some a.x c.if-some.false _ c.step_number-2.ensures
+returns c =
+    let a = c.args in
+    value_said a.least a.most a.floor a.so_far a.x ∙ ap (said (λ v. number_left a.least a.most a.floor v true) (unwrap_or a.so_far 0)) (sym c.step_number.ensures)

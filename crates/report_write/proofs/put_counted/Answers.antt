@@ -7,7 +7,7 @@ returns-then-number_at-eq0 c =
     let a = c.args in
     free_puts _ a.row.now a.out.now a.at c.number_at.ensures c.if-number_at-eq0.true
 
-pub returns : goal.returns
-returns c =
+pub returns-else-number_at-eq0 : goal.returns-else-number_at-eq0
+returns-else-number_at-eq0 c =
     let a = c.args in
     counted_puts _ a.row.now a.out.now a.at c.number_at.ensures c.if-number_at-eq0.false c.put_record.ensures

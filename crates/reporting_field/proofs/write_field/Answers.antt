@@ -1,33 +1,22 @@
-use mathlib.Core.Path.{sym, ◌∙◌}
+-- `reporting_field::write_field` meets its contract: a text for each answer on the two methods.
+use Rattle.std.proofs.Common.{sym}
 use Rattle.octets.specs.Octets.{octets}
 use Rattle.reporting.specs.Field.{methods}
 use Rattle.reporting_field.proofs.FieldLaws.{field_by}
 use Rattle.reporting_field.proofs.write_field.Goals as goal
 
-pub returns-then-is_listed-2 : goal.returns-then-is_listed-2
+pub returns-in-true-true : goal.returns-in-true-true
 unfolding octets methods
-returns-then-is_listed-2 c =
-    let a = c.args in
-    rw (field_by a.dkim a.spf (sym c.is_listed.ensures ∙ c.if-is_listed.true) (sym c.is_listed-then-is_listed.ensures ∙ c.if-is_listed-2.true))
-    c.write.ensures
+returns-in-true-true c = rw (field_by c.args.dkim c.args.spf (sym c.in-true-true.ensures) (sym c.in-true-true.ensures')) c.write.ensures
 
-pub returns-then-is_listed : goal.returns-then-is_listed
+pub returns-in-true-false : goal.returns-in-true-false
 unfolding octets methods
-returns-then-is_listed c =
-    let a = c.args in
-    rw (field_by a.dkim a.spf (sym c.is_listed.ensures ∙ c.if-is_listed.true) (sym c.is_listed-then-is_listed.ensures ∙ c.if-is_listed-2.false))
-    c.write-then-is_listed.ensures
+returns-in-true-false c = rw (field_by c.args.dkim c.args.spf (sym c.in-true-false.ensures) (sym c.in-true-false.ensures')) c.write-in-true-false.ensures
 
-pub returns-then-is_listed-3 : goal.returns-then-is_listed-3
+pub returns-in-false-true : goal.returns-in-false-true
 unfolding octets methods
-returns-then-is_listed-3 c =
-    let a = c.args in
-    rw (field_by a.dkim a.spf (sym c.is_listed.ensures ∙ c.if-is_listed.false) (sym c.is_listed-2.ensures ∙ c.if-is_listed-3.true))
-    c.write-then-is_listed-3.ensures
+returns-in-false-true c = rw (field_by c.args.dkim c.args.spf (sym c.in-false-true.ensures) (sym c.in-false-true.ensures')) c.write-in-false-true.ensures
 
-pub returns : goal.returns
+pub returns-in-false-false : goal.returns-in-false-false
 unfolding octets methods
-returns c =
-    let a = c.args in
-    rw (field_by a.dkim a.spf (sym c.is_listed.ensures ∙ c.if-is_listed.false) (sym c.is_listed-2.ensures ∙ c.if-is_listed-3.false))
-    c.write-2.ensures
+returns-in-false-false c = rw (field_by c.args.dkim c.args.spf (sym c.in-false-false.ensures) (sym c.in-false-false.ensures')) c.write-in-false-false.ensures

@@ -6,4 +6,4 @@ use Rattle.rows_gather.proofs.put_row.Goals as goal
 pub returns : goal.returns
 returns c =
     puts_row c.args.row c.args.out.now c.args.at (omega arith) c.requires
-    c.append-flags.ensures c.append-author.ensures c.put_number-set.ensures c.put_number-count.ensures c.put_number.ensures
+    c.append-after_source.ensures c.append-after_flags.ensures c.put_number-after_author.ensures c.put_number-after_set.ensures c.put_number.ensures

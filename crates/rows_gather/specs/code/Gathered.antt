@@ -2,7 +2,6 @@
 use Rattle.std.specs.Prelude.{List, [], ◌∷◌, ◌++◌, ℕ, zero, suc, ◌+◌, ◌*◌, ◌/◌, ◌%◌, min, leb, take, drop, get_or, replicate, if◌then◌else◌}
 use Rattle.octets.specs.Octets.{Octets}
 use Rattle.octets.specs.Lent.{over}
-use Rattle.rows.specs.declared.Seen.{Seen}
 use Rattle.rows.specs.declared.Row.{Row}
 use Rattle.rows_gather.specs.declared.Gathered.{Gathered}
 

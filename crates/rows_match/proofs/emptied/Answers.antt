@@ -1,6 +1,6 @@
 -- `rows_match::emptied` meets its contract.
-use Rattle.rows.specs.Rows.{with_count}
 use borrow.Author.Rules.{rules}
+use Rattle.rows.specs.Rows.{with_count}
 use Rattle.rows_match.proofs.emptied.Goals as goal
 
 pub returns : goal.returns

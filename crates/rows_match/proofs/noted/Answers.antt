@@ -1,24 +1,18 @@
 -- `rows_match::noted` meets its contract.
-use mathlib.Core.Path.{sym, ◌∙◌}
-use native.Mathlib.Omega.{arith}
-use borrow.Author.Tests.{leb-false}
-use Rattle.rows_match.proofs.MatchLaws.{noted_free, noted_full, noted_more}
+use Rattle.std.proofs.Common.{arith}
+use Rattle.std.proofs.lemmas.Grind.{common_steps}
+use Rattle.rows.specs.Rows.{with_count}
+use Rattle.rows_match.specs.code.Match.{noted}
 use Rattle.rows_match.proofs.noted.Goals as goal
 
 pub returns-then-is_free : goal.returns-then-is_free
-returns-then-is_free c = noted_free c.args.seen c.args.row (sym c.is_free.ensures ∙ c.if-is_free.true)
+unfolding noted
+returns-then-is_free c = grind (arith, common_steps)
 
 pub returns-then-is_full : goal.returns-then-is_full
-returns-then-is_full c =
-    let a = c.args in
-    noted_full a.seen a.row (sym c.is_free.ensures ∙ c.if-is_free.false) (sym c.is_full.ensures ∙ c.if-is_full.true)
+unfolding noted
+returns-then-is_full c = grind (arith, common_steps)
 
-pub overflow_add-result : goal.overflow_add-result
-overflow_add-result c =
-    let a = c.args in
-    omega (arith, leb-false 4294967295 a.row.count (sym c.is_full.ensures ∙ c.if-is_full.false))
-
-pub returns : goal.returns
-returns c =
-    let a = c.args in
-    noted_more a.seen a.row (sym c.is_free.ensures ∙ c.if-is_free.false) (sym c.is_full.ensures ∙ c.if-is_full.false)
+pub returns-else-is_full : goal.returns-else-is_full
+unfolding noted with_count
+returns-else-is_full c = grind (arith, common_steps)

@@ -1,37 +1,32 @@
 -- `rows_match::same_seen` meets its contract.
-use mathlib.Core.Path.{sym, ◌∙◌}
-use Rattle.rows_match.proofs.MatchLaws.{other_source, other_disposition, other_dkim, other_spf, other_author, by_set}
+use Rattle.std.proofs.Common.{◌≡◌, ◌&&◌, ◌∙◌, arith, eqb}
+use Rattle.std.specs.Bool.{beq}
+use Rattle.std.proofs.lemmas.Grind.{common_steps}
+use Rattle.octets.specs.Octets.{is_set, same}
+use Rattle.octets.proofs.TextLaws.{same_each}
+use Rattle.rows.specs.Rows.{same_seen}
 use Rattle.rows_match.proofs.same_seen.Goals as goal
 
-pub returns-then-not-same_source : goal.returns-then-not-same_source
-returns-then-not-same_source c =
-    let a = c.args in
-    other_source a.a a.b (sym c.same_source.ensures ∙ c.if-not-same_source.true)
+pub returns-then-a-b-4 : goal.returns-then-a-b-4
+unfolding same_seen is_set
+returns-then-a-b-4 c =
+    let a = c.args.a in
+    let b = c.args.b in
+    let first : c.if-a-b.value ≡ (c.eq.result && eqb a.disposition b.disposition && beq (is_set a.dkim) (is_set b.dkim)) = grind (arith, common_steps) in
+    let second : c.if-a-b-2.value ≡ (c.if-a-b.value && beq (is_set a.spf) (is_set b.spf)) = grind (arith, common_steps) in
+    let third : c.if-a-b-3.value ≡ (c.if-a-b-2.value && eqb a.author b.author) = grind (arith, common_steps) in
+    let e : c.eq.result ≡ same a.source b.source = c.eq.ensures ∙ same_each _ _ in
+    let all : same_seen a b ≡ (c.if-a-b-3.value && eqb a.set b.set) = rw (third, second, first, e) in
+    rw (all, c.if-a-b-4.true)
 
-pub returns-then-a-b : goal.returns-then-a-b
-returns-then-a-b c =
-    let a = c.args in
-    other_disposition a.a a.b (sym c.same_source.ensures ∙ c.if-not-same_source.false) c.if-a-b.true
-
-pub returns-then-not-same_flag : goal.returns-then-not-same_flag
-returns-then-not-same_flag c =
-    let a = c.args in
-    other_dkim a.a a.b (sym c.same_source.ensures ∙ c.if-not-same_source.false) c.if-a-b.false (sym c.same_flag.ensures ∙ c.if-not-same_flag.true)
-
-pub returns-then-not-same_flag-2 : goal.returns-then-not-same_flag-2
-returns-then-not-same_flag-2 c =
-    let a = c.args in
-    other_spf a.a a.b (sym c.same_source.ensures ∙ c.if-not-same_source.false) c.if-a-b.false (sym c.same_flag.ensures ∙ c.if-not-same_flag.false)
-    (sym c.same_flag-2.ensures ∙ c.if-not-same_flag-2.true)
-
-pub returns-then-a-b-2 : goal.returns-then-a-b-2
-returns-then-a-b-2 c =
-    let a = c.args in
-    other_author a.a a.b (sym c.same_source.ensures ∙ c.if-not-same_source.false) c.if-a-b.false (sym c.same_flag.ensures ∙ c.if-not-same_flag.false)
-    (sym c.same_flag-2.ensures ∙ c.if-not-same_flag-2.false) c.if-a-b-2.true
-
-pub returns : goal.returns
-returns c =
-    let a = c.args in
-    by_set a.a a.b (sym c.same_source.ensures ∙ c.if-not-same_source.false) c.if-a-b.false (sym c.same_flag.ensures ∙ c.if-not-same_flag.false)
-    (sym c.same_flag-2.ensures ∙ c.if-not-same_flag-2.false) c.if-a-b-2.false
+pub returns-else-a-b-4 : goal.returns-else-a-b-4
+unfolding same_seen is_set
+returns-else-a-b-4 c =
+    let a = c.args.a in
+    let b = c.args.b in
+    let first : c.if-a-b.value ≡ (c.eq.result && eqb a.disposition b.disposition && beq (is_set a.dkim) (is_set b.dkim)) = grind (arith, common_steps) in
+    let second : c.if-a-b-2.value ≡ (c.if-a-b.value && beq (is_set a.spf) (is_set b.spf)) = grind (arith, common_steps) in
+    let third : c.if-a-b-3.value ≡ (c.if-a-b-2.value && eqb a.author b.author) = grind (arith, common_steps) in
+    let e : c.eq.result ≡ same a.source b.source = c.eq.ensures ∙ same_each _ _ in
+    let all : same_seen a b ≡ (c.if-a-b-3.value && eqb a.set b.set) = rw (third, second, first, e) in
+    rw (all, c.if-a-b-4.false)

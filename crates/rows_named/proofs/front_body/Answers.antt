@@ -1,16 +1,13 @@
 -- `rows_named::front_body` meets its contract.
-use mathlib.Core.Path.{sym, ◌∙◌}
-use Rattle.octets.specs.Octets.{part_of}
-use Rattle.rows_named.proofs.NamingLaws.{whole_body, no_body}
+use Rattle.std.proofs.Common.{arith}
+use Rattle.std.proofs.lemmas.Grind.{common_steps}
+use Rattle.rows.specs.Lists.{body_or_empty, first_body}
 use Rattle.rows_named.proofs.front_body.Goals as goal
 
 pub returns-then-is_whole : goal.returns-then-is_whole
-returns-then-is_whole c =
-    let a = c.args in
-    c.body.ensures ∙ whole_body a.t.now (sym c.is_whole.ensures ∙ c.if-is_whole.true)
+unfolding body_or_empty first_body
+returns-then-is_whole c = grind (arith, common_steps)
 
-pub returns : goal.returns
-unfolding part_of
-returns c =
-    let a = c.args in
-    c.part.ensures ∙ no_body a.t.now (sym c.is_whole.ensures ∙ c.if-is_whole.false)
+pub returns-else-is_whole : goal.returns-else-is_whole
+unfolding body_or_empty first_body
+returns-else-is_whole c = grind (arith, common_steps)

@@ -1,26 +1,19 @@
 -- `rows_named::is_named` meets its contract.
-use mathlib.Core.Path.{ap, sym, ◌∙◌}
-use mathlib.Core.Bool.{false}
-use Rattle.octets.specs.Framing.{body_of, is_whole}
-use Rattle.rows.specs.Lists.{set_in}
-use Rattle.rows_named.specs.code.Naming.{passes_set}
-use Rattle.rows_named.proofs.NamingLaws.{no_author, no_set, by_set}
+use Rattle.std.proofs.Common.{◌≡◌, ◌&&◌, arith}
+use Rattle.std.proofs.lemmas.Grind.{common_steps}
+use Rattle.octets.specs.Framing.{is_whole}
+use Rattle.rows_named.specs.code.Naming.{records_after}
+use Rattle.rows_named.proofs.NamingLaws.{named_test}
 use Rattle.rows_named.proofs.is_named.Goals as goal
 
-pub returns-then-not-is_whole : goal.returns-then-not-is_whole
-returns-then-not-is_whole c =
+pub returns-then-is_whole-2 : goal.returns-then-is_whole-2
+returns-then-is_whole-2 c =
     let a = c.args in
-    no_author a.authors.now a.sets.now a.author a.set (ap is_whole (sym c.record_at.ensures) ∙ sym c.is_whole.ensures ∙ c.if-not-is_whole.true)
+    let whole : c.if-is_whole.value ≡ (is_whole (records_after a.author a.authors.now) && is_whole (records_after a.set a.sets.now)) = grind (arith, common_steps) in
+    rw (c.is_set.ensures, c.body.ensures, c.record_at-named.ensures, ← named_test, ← whole, c.if-is_whole-2.true)
 
-pub returns-then-not-is_whole-2 : goal.returns-then-not-is_whole-2
-returns-then-not-is_whole-2 c =
+pub returns-else-is_whole-2 : goal.returns-else-is_whole-2
+returns-else-is_whole-2 c =
     let a = c.args in
-    no_set a.authors.now a.sets.now a.author a.set (ap is_whole (sym c.record_at.ensures) ∙ sym c.is_whole.ensures ∙ c.if-not-is_whole.false)
-    (ap is_whole (sym c.record_at-named.ensures) ∙ sym c.is_whole-2.ensures ∙ c.if-not-is_whole-2.true)
-
-pub returns : goal.returns
-returns c =
-    let a = c.args in
-    c.is_set.ensures ∙ ap (λ b. passes_set 0 false (set_in b)) (c.body.ensures ∙ ap body_of c.record_at-named.ensures)
-    ∙ by_set a.authors.now a.sets.now a.author a.set (ap is_whole (sym c.record_at.ensures) ∙ sym c.is_whole.ensures ∙ c.if-not-is_whole.false)
-    (ap is_whole (sym c.record_at-named.ensures) ∙ sym c.is_whole-2.ensures ∙ c.if-not-is_whole-2.false)
+    let whole : c.if-is_whole.value ≡ (is_whole (records_after a.author a.authors.now) && is_whole (records_after a.set a.sets.now)) = grind (arith, common_steps) in
+    rw (← named_test, ← whole, c.if-is_whole-2.false)

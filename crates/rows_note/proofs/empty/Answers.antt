@@ -5,24 +5,14 @@ use Rattle.rows_note.proofs.EmptyLaws.{emptied_none, emptied_step, emptied_all}
 use Rattle.rows_note.proofs.empty.Goals as goal
 
 pub loop-i-init : goal.loop-i-init
-loop-i-init c = record {
-  listed = c.listed-n.ensures;
-  within = omega arith;
-  emptied = sym (emptied_none c.args.rows.now);
-}
+loop-i-init c = sym (emptied_none c.args.rows.now)
 
 pub loop-i-preserved : goal.loop-i-preserved
 loop-i-preserved c =
     let inside : c.loop-i.i < length c.args.rows.now = omega arith in
-    let step = emptied_step c.loop-i.i c.args.rows.now no_row inside in
-    record {
-      listed = c.listed-n.ensures;
-      within = omega arith;
-      emptied = cc;
-    }
+    let step = emptied_step c.loop-i.i c.args.rows.now no_row inside in cc
 
 pub returns : goal.returns
 returns c =
-    let all : c.loop-i.i ≡ c.listed-n.result = omega arith in
-    let whole = emptied_all c.args.rows.now in
-    cc
+    let all : c.loop-i.i ≡ c.listed-i-end.result = omega arith in
+    let whole = emptied_all c.args.rows.now in cc

@@ -8,10 +8,10 @@ use Rattle.sheet_open.proofs.add_each.Goals as goal
 pub loop-more-init : goal.loop-more-init
 loop-more-init c = let a = c.args in none_added a.records a.sheet.now c.after_record-t.ensures a.e
 
-pub returns-in-Refused : goal.returns-in-Refused
-returns-in-Refused c = λ m v.
+pub returns-in-Err : goal.returns-in-Err
+returns-in-Err c = λ m v.
     let l = c.loop-more in
-    one_refused (l.invariant m v) (one_identified l.t.now l.more c.loop-more-test.true (sym c.is_identifier.ensures ∙ c.if-is_identifier.true)) c.add_at-added.ensures c.in-Refused.is
+    one_refused (l.invariant m v) (one_identified l.t.now l.more c.loop-more-test.true (sym c.is_identifier.ensures ∙ c.if-is_identifier.true)) c.add_at-added.ensures c.in-Err.is
 
 pub loop-more-preserved : goal.loop-more-preserved
 loop-more-preserved c = λ m v.

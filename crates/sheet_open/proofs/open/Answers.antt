@@ -2,10 +2,10 @@
 use Rattle.sheet_open.proofs.OpenLaws.{not_opened, opened_adding}
 use Rattle.sheet_open.proofs.open.Goals as goal
 
-pub returns-in-Refused : goal.returns-in-Refused
-returns-in-Refused c =
+pub returns-in-Err : goal.returns-in-Err
+returns-in-Err c =
     let a = c.args in
-    not_opened a.records a.sheet.now c.body.ensures c.skip.ensures c.octet_at.ensures c.octet_at-2.ensures c.empty.result c.open-opened.result c.open-opened.ensures c.in-Refused.is
+    not_opened a.records a.sheet.now c.body.ensures c.skip.ensures c.octet_at.ensures c.octet_at-2.ensures c.empty.result c.open-opened.result c.open-opened.ensures c.in-Err.is
 
 pub returns : goal.returns
 returns c =

@@ -4,10 +4,10 @@ use mathlib.Core.Path.{sym, ◌∙◌}
 use native.Mathlib.Omega.{arith}
 use Rattle.sheet_run.proofs.compose.Goals as goal
 
-pub returns-in-Refused : goal.returns-in-Refused
-returns-in-Refused c = λ size.
+pub returns-in-Err : goal.returns-in-Err
+returns-in-Err c = λ size.
     refusal_alone _ c.args.lines.now (omega (arith, size)) c.append_refusal.ensures
-    ∙ sym (c.begin-begun.ensures.refused _ c.in-Refused.is)
+    ∙ sym (c.begin-begun.ensures.refused _ c.in-Err.is)
 
 pub returns : goal.returns
 returns c = λ size.

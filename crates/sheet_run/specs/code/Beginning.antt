@@ -1,11 +1,10 @@
 -- A sheet's beginning: what a check of its records, the opening of its message and the adding of its identifiers leave.
-use Rattle.std.specs.Prelude.{◌≡◌, ℕ, length}
+use Rattle.std.specs.Prelude.{◌≡◌, ℕ, length, Ok, Err}
 use Rattle.octets.specs.Octets.{Octets}
 use Rattle.octets.specs.Refusing.{not_ok}
 use Rattle.octets.specs.declared.Refusal.{Refusal}
 use Rattle.verdict.specs.Message.{Message}
 use Rattle.evaluation.specs.declared.Evaluation.{Evaluation}
-use Rattle.evaluation.specs.declared.Acceptance.{Acceptance}
 use Rattle.records_fields.specs.code.Layout.{listed}
 use Rattle.sheet.specs.Printed.{evaluated_over, text_of, printed}
 use Rattle.sheet_turn.specs.code.Conversing.{answers_on, Conversing}
@@ -20,5 +19,5 @@ pub record Starts (sheet : Octets) (records : ℕ) (e : Evaluation) : Type 0 whe
 
 -- a refusal is the sheet's; where all is accepted, the conversation begins
 pub record Begins (sheet : Octets) (r : Begun) : Type 0 where
-  pub refused : (f : Refusal) → r.acceptance ≡ Acceptance.Refused f → printed sheet ≡ text_of (not_ok f)
-  pub accepted : r.acceptance ≡ Acceptance.Accepted → Starts sheet r.records r.evaluation
+  pub refused : (f : Refusal) → r.acceptance ≡ Err f → printed sheet ≡ text_of (not_ok f)
+  pub accepted : r.acceptance ≡ (Ok tt) → Starts sheet r.records r.evaluation

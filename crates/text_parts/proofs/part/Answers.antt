@@ -5,4 +5,4 @@ use Rattle.text_parts.proofs.part.Goals as goal
 pub returns : goal.returns
 returns c =
     let a = c.args in
-    clipped_part a.s.now a.from a.end c.smaller-begin.result c.smaller-stop.result c.smaller-stop.ensures c.smaller-begin.ensures
+    clipped_part a.s.now a.from a.end c.min.result c.min-stop.result c.min-stop.ensures c.min.ensures

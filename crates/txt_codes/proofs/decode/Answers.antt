@@ -1,5 +1,6 @@
 -- `txt_codes::decode` meets its contract.
 use mathlib.Core.Path.{ap}
+use native.Mathlib.Omega.{arith}
 use borrow.Author.Tests.{ne_eqb}
 use Rattle.txt.specs.declared.Reply.{Reply}
 use Rattle.txt_codes.specs.code.Codes.{reply_of}
@@ -17,4 +18,4 @@ pub returns-in_default : goal.returns-in_default
 unfolding reply_of
 returns-in_default c =
     let n = c.args.code in
-    rw (ne_eqb n 0 c.in_default.in_default-own.rest.0.1, ne_eqb n 1 c.in_default.in_default-own.rest.1) (ap Reply.Record c.decode_settings.ensures)
+    rw (ne_eqb n 0 (λ e. omega arith), ne_eqb n 1 (λ e. omega arith)) (ap Reply.Record c.decode_settings.ensures)

@@ -1,4 +1,5 @@
 -- `txt_codes::decode_mode` meets its contract.
+use native.Mathlib.Omega.{arith}
 use borrow.Author.Tests.{ne_eqb}
 use Rattle.txt_codes.specs.code.Codes.{mode_of_code}
 use Rattle.txt_codes.proofs.decode_mode.Goals as goal
@@ -9,4 +10,4 @@ returns-in-0 c = rw c.in-0.is
 
 pub returns-in_default : goal.returns-in_default
 unfolding mode_of_code
-returns-in_default c = rw (ne_eqb c.args.n 0 c.in_default.in_default-own.rest.1)
+returns-in_default c = rw (ne_eqb c.args.n 0 (λ e. omega arith))

@@ -1,4 +1,5 @@
 -- `txt_codes::decode_psd` meets its contract.
+use native.Mathlib.Omega.{arith}
 use borrow.Author.Tests.{ne_eqb}
 use Rattle.txt_codes.specs.code.Codes.{psd_of}
 use Rattle.txt_codes.proofs.decode_psd.Goals as goal
@@ -15,4 +16,4 @@ pub returns-in_default : goal.returns-in_default
 unfolding psd_of
 returns-in_default c =
     let n = c.args.n in
-    rw (ne_eqb n 0 c.in_default.in_default-own.rest.0.1, ne_eqb n 1 c.in_default.in_default-own.rest.1)
+    rw (ne_eqb n 0 (λ e. omega arith), ne_eqb n 1 (λ e. omega arith))

@@ -1,4 +1,5 @@
 -- `txt_codes::decode_setting` meets its contract.
+use native.Mathlib.Omega.{arith}
 use borrow.Author.Tests.{ne_eqb}
 use Rattle.txt_codes.specs.code.Codes.{setting_of}
 use Rattle.txt_codes.proofs.decode_setting.Goals as goal
@@ -23,5 +24,4 @@ pub returns-in_default : goal.returns-in_default
 unfolding setting_of
 returns-in_default c =
     let n = c.args.n in
-    let no = c.in_default.in_default-own.rest in
-    rw (ne_eqb n 0 no.0.0.0.1, ne_eqb n 1 no.0.0.1, ne_eqb n 2 no.0.1, ne_eqb n 3 no.1)
+    rw (ne_eqb n 0 (λ e. omega arith), ne_eqb n 1 (λ e. omega arith), ne_eqb n 2 (λ e. omega arith), ne_eqb n 3 (λ e. omega arith))

@@ -1,4 +1,5 @@
 -- `txt_codes::read_status` meets its contract.
+use native.Mathlib.Omega.{arith}
 use Rattle.txt.specs.Answers.{status_numbered}
 use Rattle.txt.proofs.StatusLaws.{not_listed}
 use Rattle.txt_codes.proofs.read_status.Goals as goal
@@ -12,4 +13,4 @@ unfolding status_numbered
 returns-in-1 c = rw c.in-1.is
 
 pub returns-in_default : goal.returns-in_default
-returns-in_default c = not_listed c.args.n c.in_default.in_default-own.rest.0.1 c.in_default.in_default-own.rest.1
+returns-in_default c = not_listed c.args.n (λ e. omega arith) (λ e. omega arith)

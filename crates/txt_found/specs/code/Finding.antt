@@ -1,7 +1,6 @@
 -- The policy records among texts, as the code keeps them.
-use Rattle.std.specs.Prelude.{List, [], ◌∷◌}
+use Rattle.std.specs.Prelude.{List, [], ◌∷◌, Option, Some, None}
 use Rattle.policy.specs.declared.Settings.{Settings}
-use Rattle.policy.specs.declared.Reading.{Reading}
 use Rattle.txt.specs.declared.Reply.{Reply}
 use Rattle.txt_found.specs.declared.Found.{Found}
 
@@ -12,11 +11,11 @@ found_of (s ∷ []) = Found.One s
 found_of (s ∷ r ∷ rs) = Found.Several
 
 -- and with one more text
-abbrev pub add_found : Reading → Found → Found
-add_found Reading.NoRecord f = f
-add_found (Reading.Record s) Found.Nothing = Found.One s
-add_found (Reading.Record s) (Found.One r) = Found.Several
-add_found (Reading.Record s) Found.Several = Found.Several
+abbrev pub add_found : Option Settings → Found → Found
+add_found None f = f
+add_found (Some s) Found.Nothing = Found.One s
+add_found (Some s) (Found.One r) = Found.Several
+add_found (Some s) Found.Several = Found.Several
 
 -- what they say of the name
 abbrev pub found_reply : Found → Reply

@@ -11,52 +11,52 @@ pub slice_bounds-write-end : goal.slice_bounds-write-end
 slice_bounds-write-end c =
     let a = c.args in
     let m = c.loop-rest in
-    let k = c.wide-k in
-    omega (arith, next_within (joined 0 a.strings.now) m.rest.now a.out.now m.out m.at m.invariant k.result k.ensures.0 (omega arith))
+    let k = c.from-k in
+    omega (arith, next_within (joined 0 a.strings.now) m.rest.now a.out.now m.out m.at m.invariant k.result k.ensures (omega arith))
 
-pub slice_bounds-write-count-in-loop-rest : goal.slice_bounds-write-count-in-loop-rest
-slice_bounds-write-count-in-loop-rest c = c.loop-rest.invariant.within
+pub slice_bounds-write-count-in-len1-up : goal.slice_bounds-write-count-in-len1-up
+slice_bounds-write-count-in-len1-up c = c.loop-rest.invariant.within
 
-pub slice_bounds-write-start-in-loop-rest : goal.slice_bounds-write-start-in-loop-rest
-slice_bounds-write-start-in-loop-rest c = omega (arith, c.loop-rest.invariant.within)
+pub slice_bounds-write-start-in-len1-up : goal.slice_bounds-write-start-in-len1-up
+slice_bounds-write-start-in-len1-up c = omega (arith, c.loop-rest.invariant.within)
 
 pub overflow_add-at : goal.overflow_add-at
 overflow_add-at c =
     let a = c.args in
     let m = c.loop-rest in
-    let k = c.wide-k in
+    let k = c.from-k in
     let w = c.write in
-    let o = one_more (joined 0 a.strings.now) m.rest.now a.out.now m.out m.at m.invariant k.result k.ensures.0 (omega arith) w.result w.new.out w.ensures in
+    let o = one_more (joined 0 a.strings.now) m.rest.now a.out.now m.out m.at m.invariant k.result k.ensures (omega arith) w.result w.new.out w.ensures in
     omega (arith, o.within, o.long)
 
 pub slice_bounds-rest-count : goal.slice_bounds-rest-count
 slice_bounds-rest-count c =
     let a = c.args in
     let m = c.loop-rest in
-    let k = c.wide-k in
-    next_within (joined 0 a.strings.now) m.rest.now a.out.now m.out m.at m.invariant k.result k.ensures.0 (omega arith)
+    let k = c.from-k in
+    next_within (joined 0 a.strings.now) m.rest.now a.out.now m.out m.at m.invariant k.result k.ensures (omega arith)
 
 pub slice_bounds-rest-start : goal.slice_bounds-rest-start
 slice_bounds-rest-start c =
     let a = c.args in
     let m = c.loop-rest in
-    let k = c.wide-k in
-    omega (arith, next_within (joined 0 a.strings.now) m.rest.now a.out.now m.out m.at m.invariant k.result k.ensures.0 (omega arith))
+    let k = c.from-k in
+    omega (arith, next_within (joined 0 a.strings.now) m.rest.now a.out.now m.out m.at m.invariant k.result k.ensures (omega arith))
 
 pub loop-rest-smaller : goal.loop-rest-smaller
 loop-rest-smaller c =
     let a = c.args in
     let m = c.loop-rest in
-    let k = c.wide-k in
-    omega (arith, next_within (joined 0 a.strings.now) m.rest.now a.out.now m.out m.at m.invariant k.result k.ensures.0 (omega arith))
+    let k = c.from-k in
+    omega (arith, next_within (joined 0 a.strings.now) m.rest.now a.out.now m.out m.at m.invariant k.result k.ensures (omega arith))
 
 pub loop-rest-preserved : goal.loop-rest-preserved
 loop-rest-preserved c =
     let a = c.args in
     let m = c.loop-rest in
-    let k = c.wide-k in
+    let k = c.from-k in
     let w = c.write in
-    one_more (joined 0 a.strings.now) m.rest.now a.out.now m.out m.at m.invariant k.result k.ensures.0 (omega arith) w.result w.new.out w.ensures
+    one_more (joined 0 a.strings.now) m.rest.now a.out.now m.out m.at m.invariant k.result k.ensures (omega arith) w.result w.new.out w.ensures
 
 pub returns : goal.returns
 returns c =

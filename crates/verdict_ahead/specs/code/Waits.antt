@@ -1,6 +1,5 @@
 -- How it is read what is ahead of an evaluation, and what it waits for.
-use Rattle.std.specs.Prelude.{◌≡◌, List, ℕ, ◌≤◌, drop}
-use Rattle.std.proofs.Math.Option.{Option, none as nothing, some as just}
+use Rattle.std.specs.Prelude.{◌≡◌, List, ℕ, ◌≤◌, drop, Option, None, Some}
 use Rattle.octets.specs.Octets.{Octets}
 use Rattle.lookup.specs.Lookup.{Name, Standing, needs, has}
 use Rattle.domain.specs.Domain.{asked_name}
@@ -12,7 +11,7 @@ use Rattle.verdict_cursor.specs.declared.Place.{Place}
 use Rattle.verdict_cursor.specs.code.Cursor.{stands, needed}
 use Rattle.verdict_cursor.specs.code.Standing.{verdict_by, cursor_in}
 use Rattle.verdict_ahead.specs.declared.Ahead.{Ahead}
-use Rattle.verdict_ahead.specs.declared.Waiting.{Waiting}
+use Rattle.verdict_ahead.specs.declared.Asked.{Asked}
 
 -- ------------------------------------------------------------------ what is ahead
 
@@ -34,15 +33,15 @@ pub record Looks (t : Terms) (p : Place) (a : Ahead) : Type 0 where
 
 -- ------------------------------------------------------------------ what is waited for
 
-unfoldable pub waiting_name : Octets → List ℕ → Waiting → Option Name
-waiting_name domains numbers Waiting.Nothing = nothing
-waiting_name domains numbers (Waiting.For walk place) = just (asked_name (drop place.0 (slot domains numbers walk)))
+unfoldable pub waiting_name : Octets → List ℕ → Option Asked → Option Name
+waiting_name domains numbers None = None
+waiting_name domains numbers (Some a) = Some (asked_name (drop a.place.0 (slot domains numbers a.walk)))
 
-unfoldable pub Within : Waiting → Type 0
-Within Waiting.Nothing = Unit
-Within (Waiting.For walk place) = walk ≤ 16
+unfoldable pub Within : Option Asked → Type 0
+Within None = Unit
+Within (Some a) = a.walk ≤ 16
 
 -- the promise of code that finds it
-pub record Waits (t : Terms) (p : Place) (w : Waiting) : Type 0 where
+pub record Waits (t : Terms) (p : Place) (w : Option Asked) : Type 0 where
   pub name : (domains : Octets) (numbers stored : List ℕ) → waiting_name domains numbers w ≡ needed (stands (stored_message domains numbers t) (cursor_in domains numbers t stored p))
   pub within : Within w

@@ -5,4 +5,4 @@ use Rattle.verdict_author.proofs.store.Goals as goal
 pub returns : goal.returns
 returns c =
     let a = c.args in
-    stores_author a.domains.now a.numbers.now _ _ a.w c.stored_number-number.result c.put_number.ensures (rw c.slot-author.ensures at c.stored_number-number.ensures)
+    stores_author a.domains.now a.numbers.now _ _ a.w c.stored_number.result c.put_number.ensures (rw c.slot-author.ensures at c.stored_number.ensures)

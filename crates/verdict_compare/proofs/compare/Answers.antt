@@ -1,6 +1,6 @@
 -- `verdict_compare::compare` meets its contract. The loop's invariant: comparing from the first walk on, with what was stored, is comparing from `walk` on, with what is stored.
 use mathlib.Core.Path.{◌≡◌, refl, ap, ◌∙◌, sym, subst}
-use Prim.Native.Nat.{ℕ, ◌+◌, ◌-◌, min}
+use Prim.Native.Nat.{ℕ, ◌+◌, min}
 use native.Mathlib.Omega.{arith}
 use mathlib.Core.List.{List}
 use lib.ListN.{get_or}
@@ -14,15 +14,15 @@ use Rattle.verdict_cursor.proofs.PassedLaws.{none_set}
 use Rattle.verdict_pass.specs.code.Passing.{passed_at, passed_in}
 use Rattle.verdict_compare.proofs.ComparingLaws.{comparing, after_walk, judged, judged_only, passed_on, compared_next, stopped, stopped_only}
 use Rattle.verdict_compare.proofs.compare.Goals as goal
-use Rattle.verdict_compare.proofs.compare.Goals.{After-pass_at, After-smaller-walk}
+use Rattle.verdict_compare.proofs.compare.Goals.{After-pass_at, After-min-walk}
 
 -- comparing after this walk's identifier
 after : (v : After-pass_at) →
     let m = v.loop-walk in
     let a = v.args in
     let β = kept_answers a.domains.now a.count a.kept.now in
-    (t : Terms) → v.smaller-last.result ≡ given_count a.domains.now a.numbers.now t
-    → comparing a.domains.now a.numbers.now t β a.ruling a.stored.now (v.smaller-walk.result + 1)
+    (t : Terms) → v.min-last.result ≡ given_count a.domains.now a.numbers.now t
+    → comparing a.domains.now a.numbers.now t β a.ruling a.stored.now (v.min-walk.result + 1)
     ≡ after_walk a.domains.now a.numbers.now t β a.ruling m.stored m.walk (passed_in (slot a.domains.now a.numbers.now m.walk) v.pass_at.result)
 unfolding stored_at
 after v = λ t e.
@@ -36,26 +36,26 @@ after v = λ t e.
     ∙ ap on (sym v.pass_at.ensures)
 
 -- where comparing begins
-begins-at : (v : After-smaller-walk) →
+begins-at : (v : After-min-walk) →
     let a = v.args in
-    min a.passed (given_count a.domains.now a.numbers.now a.t) + 1 ≡ v.smaller-walk.result + 1
+    min a.passed (given_count a.domains.now a.numbers.now a.t) + 1 ≡ v.min-walk.result + 1
 unfolding given_count
-begins-at v = omega (arith, v.smaller-last.ensures, v.smaller-walk.ensures)
+begins-at v = omega (arith, v.min-last.ensures, v.min-walk.ensures)
 
-pub overflow_add-walk : goal.overflow_add-walk
-overflow_add-walk c = omega (arith, c.smaller-last.ensures, c.smaller-walk.ensures)
+pub overflow_add-walk-end : goal.overflow_add-walk-end
+overflow_add-walk-end c = omega (arith, c.min-last.ensures, c.min-walk.ensures)
 
 pub loop-walk-init : goal.loop-walk-init
-loop-walk-init c = (omega (arith, c.smaller-last.ensures), omega arith, omega (arith, c.smaller-walk.ensures), refl, λ z. z, λ t e. refl)
+loop-walk-init c = (omega (arith, c.min-last.ensures), omega arith, omega (arith, c.min-walk.ensures), refl, λ z. z, λ t e. refl)
 
 pub returns-in-Stops : goal.returns-in-Stops
 unfolding given_count
 returns-in-Stops c =
     let m = c.loop-walk in
-    let last = c.smaller-last.ensures in
+    let last = c.min-last.ensures in
     let a = c.args in
     let β = kept_answers a.domains.now a.count a.kept.now in
-    rw (begins-at (goal.at.returns-in-Stops c).After-smaller-walk, c.identifier.ensures)
+    rw (begins-at (goal.at.returns-in-Stops c).After-min-walk, c.identifier.ensures)
     (record {
       place = stopped a.domains.now a.numbers.now a.t β a.ruling m.stored m.walk m.invariant.1 (omega (arith, last)) c.in-Stops.stop
           ∙ sym (rw c.in-Stops.is at (after (goal.at.returns-in-Stops c).After-pass_at a.t last));
@@ -85,10 +85,10 @@ pub returns : goal.returns
 unfolding given_count
 returns c =
     let m = c.loop-walk in
-    let last = c.smaller-last.ensures in
+    let last = c.min-last.ensures in
     let a = c.args in
     let β = kept_answers a.domains.now a.count a.kept.now in
-    rw (begins-at (goal.at.returns c).After-smaller-walk, c.judged.ensures)
+    rw (begins-at (goal.at.returns c).After-min-walk, c.judged.ensures)
     (record {
       place = judged a.domains.now a.numbers.now a.t β a.ruling m.stored m.walk (omega (arith, last)) (omega (arith, m.invariant.2, last)) ∙ sym (m.invariant.5 a.t last);
       only = λ z. judged_only a.domains.now a.numbers.now a.t β a.ruling m.stored m.walk (omega (arith, last)) (omega (arith, m.invariant.2, last)) (m.invariant.4 z);

@@ -13,7 +13,7 @@ use Rattle.verdict_pass.proofs.PassingLaws.{passed_short}
 use Rattle.alignment_stored.proofs.StoredLaws.{slot_size}
 use Rattle.verdict_compare.proofs.ComparingLaws.{comparing, after_walk, compares_same, compares_after, passed_on, stopped, stopped_only}
 use Rattle.verdict_compare.proofs.compare_after.Goals as goal
-use Rattle.verdict_compare.proofs.compare_after.Goals.{After-pass, Else-smaller-walk}
+use Rattle.verdict_compare.proofs.compare_after.Goals.{After-pass, Else-min-walk, then-walk-lt1-via-then-walk-lt1, then-walk-lt1-via-else-walk-lt1+then-min-walk}
 
 -- this walk's identifier
 own : (v : After-pass) →
@@ -26,34 +26,35 @@ own v =
     ∙ passed_short (slot a.domains.now a.numbers.now a.walk) _ (slot_size a.domains.now a.numbers.now a.walk)
 
 -- an identifier has it
-first : (v : Else-smaller-walk) → v.args.walk < 1 → ⊥
+first : (v : Else-min-walk) → v.args.walk < 1 → ⊥
 first v h = omega (arith, v.if-walk-lt1.false)
 
-last : (v : Else-smaller-walk) →
+last : (v : Else-min-walk) →
     let a = v.args in
     given_count a.domains.now a.numbers.now a.t < a.walk → ⊥
 unfolding given_count
-last v h = omega (arith, h, v.if-smaller-walk.false, v.smaller.ensures)
+last v h = omega (arith, h, v.if-min-walk.false, v.min.ensures)
 
 pub returns-then-walk-lt1 : goal.returns-then-walk-lt1
-returns-then-walk-lt1 c = record {
-  given = λ h k. absurd (omega (arith, c.if-walk-lt1.true));
-  none = λ h. (c.judged.ensures, refl);
-  past = λ h. (c.judged.ensures, refl);
-}
-
-pub returns-then-smaller-walk : goal.returns-then-smaller-walk
 unfolding given_count
-returns-then-smaller-walk c = record {
-  given = λ h k. absurd (omega (arith, k, c.if-smaller-walk.true, c.smaller.ensures));
-  none = λ h. (c.judged-then-smaller-walk.ensures, refl);
-  past = λ h. (c.judged-then-smaller-walk.ensures, refl);
-}
+returns-then-walk-lt1 c =
+    elim c.then-walk-lt1.branch [
+      | then-walk-lt1-via-then-walk-lt1 w ↦ record {
+        given = λ h k. absurd (omega (arith, w.if-walk-lt1.true));
+        none = λ h. (c.judged.ensures, refl);
+        past = λ h. (c.judged.ensures, refl);
+      }
+      | then-walk-lt1-via-else-walk-lt1+then-min-walk w ↦ record {
+        given = λ h k. absurd (omega (arith, k, w.if-min-walk.true, w.min.ensures));
+        none = λ h. (c.judged.ensures, refl);
+        past = λ h. (c.judged.ensures, refl);
+      }
+    ]
 
 pub store-requires : goal.store-requires
 unfolding given_count
 store-requires c =
-    omega (arith, c.store-arg-1.given.0.1, c.if-smaller-walk.false, c.smaller.ensures)
+    omega (arith, c.store-arg-1.given.0.1, c.if-min-walk.false, c.min.ensures)
 
 pub returns-in-Stops : goal.returns-in-Stops
 returns-in-Stops c =
@@ -67,8 +68,8 @@ returns-in-Stops c =
                 ∙ ap (after_walk a.domains.now a.numbers.now a.t β a.ruling a.stored.now a.walk) (rw c.in-Stops.is at (own (goal.at.returns-in-Stops c).After-pass));
             only = λ z. stopped_only a.domains.now a.numbers.now a.t β a.ruling a.stored.now a.walk h k c.in-Stops.stop z;
           }));
-      none = λ h. absurd (first (goal.at.returns-in-Stops c).Else-smaller-walk h);
-      past = λ h. absurd (last (goal.at.returns-in-Stops c).Else-smaller-walk h);
+      none = λ h. absurd (first (goal.at.returns-in-Stops c).Else-min-walk h);
+      past = λ h. absurd (last (goal.at.returns-in-Stops c).Else-min-walk h);
     }
 
 pub returns-in-Passes : goal.returns-in-Passes
@@ -82,10 +83,10 @@ returns-in-Passes c =
           (record {
             place = on.place
                 ∙ ap (λ (l : List ℕ). comparing a.domains.now a.numbers.now a.t β a.ruling l (a.walk + 1)) c.store.ensures
-                ∙ passed_on a.domains.now a.numbers.now a.t β a.ruling a.stored.now a.walk h (omega (arith, c.store-arg-1.given.0.1, c.if-smaller-walk.false, c.smaller.ensures)) c.in-Passes.number
+                ∙ passed_on a.domains.now a.numbers.now a.t β a.ruling a.stored.now a.walk h (omega (arith, c.store-arg-1.given.0.1, c.if-min-walk.false, c.min.ensures)) c.in-Passes.number
                 ∙ ap (after_walk a.domains.now a.numbers.now a.t β a.ruling a.stored.now a.walk) (rw c.in-Passes.is at (own (goal.at.returns-in-Passes c).After-pass));
             only = λ z. on.only (subst (NoneFrom (a.walk + 1)) (sym c.store.ensures) (none_set a.stored.now a.walk c.in-Passes.number z));
           });
-      none = λ h. absurd (first (goal.at.returns-in-Passes c).Else-smaller-walk h);
-      past = λ h. absurd (last (goal.at.returns-in-Passes c).Else-smaller-walk h);
+      none = λ h. absurd (first (goal.at.returns-in-Passes c).Else-min-walk h);
+      past = λ h. absurd (last (goal.at.returns-in-Passes c).Else-min-walk h);
     }

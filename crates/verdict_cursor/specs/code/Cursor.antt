@@ -1,13 +1,11 @@
 -- What is kept between calls of where an evaluation stands: what is stored of each walk, and where the one open walk pauses. A name's answer moves
 -- it on, until another name lacks one or the verdict stands; nothing that was done is done again.
-use Rattle.std.specs.Prelude.{List, [], ◌∷◌, ◌++◌, map, Bool, true, false, ℕ, if◌then◌else◌}
-use Rattle.std.proofs.Math.Option.{Option, none as nothing, some as just}
+use Rattle.std.specs.Prelude.{List, [], ◌∷◌, ◌++◌, map, Bool, true, false, ℕ, if◌then◌else◌, Some, None, Option}
 use Rattle.octets.specs.Octets.{any}
 use Rattle.lookup.specs.Lookup.{Name, Answers, find, Standing, needs, has}
 use Rattle.domain.specs.Domain.{Domain, targets, can_ask, asked_name}
 use Rattle.policy.specs.declared.Policy.{Policy}
 use Rattle.policy.specs.declared.Settings.{Settings}
-use Rattle.force.specs.declared.InForce.{InForce}
 use Rattle.force.specs.InForce.{in_force}
 use Rattle.txt.specs.declared.Reply.{Reply}
 use Rattle.alignment.specs.declared.Alignment.{Alignment}
@@ -45,9 +43,9 @@ cursor st passed p = record { author = st; passed = passed; point = p }
 
 -- the alignment that needs no walk; else "unknown" without the author's organizational domain; else "equal organizational domains"
 unfoldable pub read_by : Option Alignment → (organization own : Option Domain) → Alignment
-read_by (just a) organization o = a
-read_by nothing nothing o = Alignment.Unknown
-read_by nothing (just d) o = compared d o
+read_by (Some a) organization o = a
+read_by None None o = Alignment.Unknown
+read_by None (Some d) o = compared d o
 
 unfoldable pub read_alignment : Settings → Domain → Stored → Identifier × Stored → Alignment
 read_alignment s author st w = read_by (settled_alignment s author w.0) (stored_domain author st) (stored_domain w.0.domain w.1)
@@ -57,9 +55,9 @@ alignments_read s author st passed = map (read_alignment s author st) passed
 
 -- whether an identifier is walked, from its alignment without a walk and the author's organizational domain
 unfoldable pub is_walked : Option Alignment → Option Domain → Bool
-is_walked (just a) o = false
-is_walked nothing nothing = false
-is_walked nothing (just o) = true
+is_walked (Some a) o = false
+is_walked None None = false
+is_walked None (Some o) = true
 
 -- ------------------------------------------------------------------ on, over the answers taken
 
@@ -73,7 +71,7 @@ module _ (β : Answers Reply) (m : Message) where
   unfoldable pub compare_on : Domain → Settings → AppliedPolicy → Stored → List (Identifier × Stored) → List Identifier → Cursor
   compare_on d s p st passed [] = cursor st passed (at_verdict (concluded m d p (alignments_read s m.author st passed)))
   compare_on d s p st passed (i ∷ is) = elim (is_walked (settled_alignment s m.author i) (stored_domain m.author st)) [
-    | true ↦ compare_reached d s p st passed i is (λ l. compare_on d s p st l is) (reach β i.domain nothing (targets i.domain))
+    | true ↦ compare_reached d s p st passed i is (λ l. compare_on d s p st l is) (reach β i.domain None (targets i.domain))
     | false ↦ compare_on d s p st (passed ++ ((i, still_open) ∷ [])) is
   ]
 
@@ -83,9 +81,9 @@ module _ (β : Answers Reply) (m : Message) where
   complete_reached d s p (over w) = compare_on d s p (stored_in m.author (ended w)) [] m.identifiers
 
   -- with the applied record: what is stored of the author's walk so far, and how far it goes if it must be completed
-  unfoldable pub judge_on : Stored → Reached → (is_own : Bool) → Domain → InForce → Cursor
-  judge_on st w is_own d InForce.NotUsable = cursor st [] (at_verdict (unjudged m d Result.Permerror (AppliedPolicy.Known Policy.None)))
-  judge_on st w is_own d (InForce.Usable s) =
+  unfoldable pub judge_on : Stored → Reached → (is_own : Bool) → Domain → Option Settings → Cursor
+  judge_on st w is_own d None = cursor st [] (at_verdict (unjudged m d Result.Permerror (AppliedPolicy.Known Policy.None)))
+  judge_on st w is_own d (Some s) =
       if any (must_walk s m.author) m.identifiers
       then complete_reached d s (policy_of is_own m.existence s) w
       else compare_on d s (policy_of is_own m.existence s) st [] m.identifiers
@@ -107,15 +105,15 @@ module _ (β : Answers Reply) (m : Message) where
 
   -- with the reply at the author's own name: "pausing if its own name has a record"
   unfoldable pub own_on : Reply → Cursor
-  own_on Reply.Error = apply failed (over nothing) not_known
-  own_on Reply.NoRecord = apply_reached (reach β m.author nothing (later_targets m.author))
+  own_on Reply.Error = apply failed (over None) not_known
+  own_on Reply.NoRecord = apply_reached (reach β m.author None (later_targets m.author))
   own_on (Reply.Record s) =
-      own_reached (own (found m.author s)) (reach_by m.author nothing m.author (one_more m.author m.author) (λ l. reach β m.author l (later_targets m.author)) (Reply.Record s))
+      own_reached (own (found m.author s)) (reach_by m.author None m.author (one_more m.author m.author) (λ l. reach β m.author l (later_targets m.author)) (Reply.Record s))
 
   -- from the beginning
   unfoldable pub begin_on : Cursor
   begin_on = elim (can_ask m.author) [
-    | true ↦ elim (find β (asked_name m.author)) [ nothing ↦ cursor still_open [] on_own_name | just r ↦ own_on r ]
+    | true ↦ elim (find β (asked_name m.author)) [ None ↦ cursor still_open [] on_own_name | Some r ↦ own_on r ]
     | false ↦ own_on Reply.NoRecord
   ]
 
@@ -144,8 +142,8 @@ stands m c = stands_at m c.point
 
 -- the name that it needs, if it needs one
 unfoldable pub needed : Standing Verdict → Option Name
-needed (needs n) = just n
-needed (has v) = nothing
+needed (needs n) = Some n
+needed (has v) = None
 
 -- ------------------------------------------------------------------ the numbers stored
 

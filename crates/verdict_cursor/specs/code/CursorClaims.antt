@@ -1,11 +1,9 @@
 -- What holds of a cursor: it stands where a to f afresh stand, and what it stores is what is worked out afresh.
-use Rattle.std.specs.Prelude.{◌≡◌, List, [], ◌∷◌, ◌++◌, map, true, ℕ, get_or}
-use Rattle.std.proofs.Math.Option.{Option, none as nothing, some as just}
+use Rattle.std.specs.Prelude.{◌≡◌, List, [], ◌∷◌, ◌++◌, map, true, ℕ, get_or, Some, Option, None}
 use Rattle.lookup.specs.Lookup.{Name, done, Answers, find, needs, run_over}
 use Rattle.lookup.specs.code.Following.{Follows}
 use Rattle.domain.specs.Domain.{Domain, can_ask, asked_name}
 use Rattle.policy.specs.declared.Settings.{Settings}
-use Rattle.force.specs.declared.InForce.{InForce}
 use Rattle.txt.specs.declared.Reply.{Reply}
 use Rattle.alignment.specs.Alignments.{Identifier, settled_alignment}
 use Rattle.walk_progress.specs.code.Stored.{Stored, stored_domain, number_in, stored_now}
@@ -28,21 +26,21 @@ stage_of m st passed (at_verdict v) = finished v
 
 -- the settings in force of the applied record, over these answers and any more
 unfoldable pub InForceIs : Answers Reply → Message → Settings → Type 0
-InForceIs β m s = (a : Applied) × (Follows β (applied_record m.author) (done a) × (applied_settings a ≡ InForce.Usable s))
+InForceIs β m s = (a : Applied) × (Follows β (applied_record m.author) (done a) × (applied_settings a ≡ Some s))
 
 -- the numbers of identifiers that were passed are those that their walks give, worked out afresh; without the author's organizational domain all are 0
 unfoldable pub Passed : Answers Reply → Settings → (author : Domain) → List (Identifier × Stored) → Option Domain → Type 0
-Passed β s author ws nothing = (walk : ℕ) → get_or (map (λ w. number_in w.1) ws) walk 0 ≡ 0
-Passed β s author ws (just o) =
+Passed β s author ws None = (walk : ℕ) → get_or (map (λ w. number_in w.1) ws) walk 0 ≡ 0
+Passed β s author ws (Some o) =
     (γ : Answers Reply) (is : List Identifier) → numbers_each (β ++ γ) s author (map (λ w. w.0) ws ++ is) ≡ map (λ w. number_in w.1) ws ++ numbers_each (β ++ γ) s author is
 
 unfoldable pub PointWaits : Answers Reply → Message → Stored → List (Identifier × Stored) → Point → Type 0
-PointWaits β m st passed on_own_name = (can_ask m.author ≡ true) × (find β (asked_name m.author) ≡ nothing)
+PointWaits β m st passed on_own_name = (can_ask m.author ≡ true) × (find β (asked_name m.author) ≡ None)
 PointWaits β m st passed (on_author q) = KeptReached β m.author (pauses q) × Follows β (applied_record m.author) (applied_by m.author Reply.NoRecord)
 PointWaits β m st passed (on_completing d s p q) = KeptReached β m.author (pauses q) × InForceIs β m s
 PointWaits β m st passed (on_identifier d s p i q is) =
     KeptReached β i.domain (pauses q)
-    × ((settled_alignment s m.author i ≡ nothing) × (((o : Domain) × (stored_domain m.author st ≡ just o)) × ((map (λ w. w.0) passed ++ i ∷ is ≡ m.identifiers)
+    × ((settled_alignment s m.author i ≡ None) × (((o : Domain) × (stored_domain m.author st ≡ Some o)) × ((map (λ w. w.0) passed ++ i ∷ is ≡ m.identifiers)
     × (InForceIs β m s × Passed β s m.author passed (stored_domain m.author st)))))
 PointWaits β m st passed (at_verdict v) = Unit
 

@@ -1,13 +1,11 @@
 -- Where an evaluation stands between answers: what is done is not done again, and the next step looks at one walk alone.
-use Rattle.std.specs.Prelude.{List, [], ◌++◌, Bool, true, false, if◌then◌else◌}
-use Rattle.std.proofs.Math.Option.{Option, none as nothing, some as just}
+use Rattle.std.specs.Prelude.{List, [], ◌++◌, Bool, true, false, if◌then◌else◌, Some, None, Option}
 use Rattle.octets.specs.Octets.{any}
 use Rattle.lookup.specs.Lookup.{◌>>=◌, Lookups, done, Answers}
 use Rattle.lookup.specs.code.Following.{Follows}
 use Rattle.domain.specs.Domain.{Domain}
 use Rattle.policy.specs.declared.Policy.{Policy}
 use Rattle.policy.specs.declared.Settings.{Settings}
-use Rattle.force.specs.declared.InForce.{InForce}
 use Rattle.force.specs.InForce.{in_force}
 use Rattle.txt.specs.declared.Reply.{Reply}
 use Rattle.alignment.specs.declared.Alignment.{Alignment}
@@ -54,22 +52,22 @@ pub record KeptStage (β : Answers Reply) (m : Message) (g : Stage) : Type 0 whe
 -- ------------------------------------------------------------------ a, by a walk's summary
 
 unfoldable pub other_in : Option Found → Applied
-other_in nothing = no_record
-other_in (just f) = other f
+other_in None = no_record
+other_in (Some f) = other f
 
 unfoldable pub applied_in : Option Summary → Applied
-applied_in nothing = not_known
-applied_in (just s) = other_in s.applicable
+applied_in None = not_known
+applied_in (Some s) = other_in s.applicable
 
 -- ------------------------------------------------------------------ from stage to stage
 
 -- "If any must be compared this way, the author's walk is first completed"
-unfoldable pub in_force_stage : Message → (is_own : Bool) → Domain → InForce → Stage
-in_force_stage m is_own d InForce.NotUsable = finished (unjudged m d Result.Permerror (AppliedPolicy.Known Policy.None))
-in_force_stage m is_own d (InForce.Usable s) =
+unfoldable pub in_force_stage : Message → (is_own : Bool) → Domain → Option Settings → Stage
+in_force_stage m is_own d None = finished (unjudged m d Result.Permerror (AppliedPolicy.Known Policy.None))
+in_force_stage m is_own d (Some s) =
     if any (must_walk s m.author) m.identifiers
     then completing d s (policy_of is_own m.existence s)
-    else comparing d s (policy_of is_own m.existence s) nothing [] m.identifiers
+    else comparing d s (policy_of is_own m.existence s) None [] m.identifiers
 
 -- with the applied record
 unfoldable pub applied_stage : Message → Applied → Stage

@@ -18,12 +18,12 @@ returns-in-Failed c =
     let a = c.args in
     rw (c.not_known.ensures, c.in-Failed.is) (finds_error a.domains.now a.numbers.now a.t (kept_answers a.domains.now a.count a.kept.now) _ _ c.put_number.ensures)
 
-pub returns-in-Nothing : goal.returns-in-Nothing
-returns-in-Nothing c =
+pub returns-in-None : goal.returns-in-None
+returns-in-None c =
     let a = c.args in
-    rw (c.no_record.ensures, c.in-Done.is) (finds_none a.domains.now a.numbers.now a.t (kept_answers a.domains.now a.count a.kept.now) _ _ _ c.in-Nothing.is c.store.ensures)
+    rw (c.no_record.ensures, c.in-Done.is) (finds_none a.domains.now a.numbers.now a.t (kept_answers a.domains.now a.count a.kept.now) _ _ _ c.in-None.is c.store.ensures)
 
-pub returns-in-Record : goal.returns-in-Record
-returns-in-Record c =
+pub returns-in-Some : goal.returns-in-Some
+returns-in-Some c =
     let a = c.args in
-    rw c.in-Done.is (finds_record a.domains.now a.numbers.now a.t (kept_answers a.domains.now a.count a.kept.now) _ _ _ _ _ _ c.in-Record.is c.judge.ensures)
+    rw c.in-Done.is (finds_record a.domains.now a.numbers.now a.t (kept_answers a.domains.now a.count a.kept.now) _ _ _ _ _ _ c.in-Some.is c.judge.ensures)

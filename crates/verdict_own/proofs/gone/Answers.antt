@@ -2,10 +2,10 @@
 use Rattle.walk_progress.specs.code.Stops.{turned_in}
 use Rattle.verdict_own.proofs.gone.Goals as goal
 
-pub returns-in-Over : goal.returns-in-Over
+pub returns-in-Break : goal.returns-in-Break
 unfolding turned_in
-returns-in-Over c = rw c.in-Over.is
+returns-in-Break c = rw c.in-Break.is
 
-pub returns-in-On : goal.returns-in-On
+pub returns-in-Continue : goal.returns-in-Continue
 unfolding turned_in
-returns-in-On c = rw (c.in-On.is, turned_in) c.reach_on.ensures
+returns-in-Continue c = rw (c.in-Continue.is, turned_in) c.reach_on.ensures

@@ -1,21 +1,12 @@
 -- `verdict_pass::is_walked` meets its contract.
-use native.Mathlib.Omega.{arith}
-use Rattle.alignment_settle.specs.code.Tallies.{settled_of}
-use Rattle.verdict_cursor.specs.code.Cursor.{is_walked}
-use Rattle.verdict_pass.proofs.PassingLaws.{not_organized, organized}
+use mathlib.Core.Path.{◌∙◌}
+use borrow.Author.Tests.{lt-leb}
+use Rattle.verdict_pass.proofs.PassingLaws.{not_organized, organized_by}
 use Rattle.verdict_pass.proofs.is_walked.Goals as goal
 
-pub returns-then-author-lt2 : goal.returns-then-author-lt2
-returns-then-author-lt2 c = not_organized _ _ _ c.if-author-lt2.true
+pub returns-then-author-ge2 : goal.returns-then-author-ge2
+returns-then-author-ge2 c =
+    rw (← c.slot-own.ensures, ← c.settle_at.ensures) (organized_by c.settle_at.result _ c.args.author c.if-author-ge2.true c.is_none.result c.is_none.ensures)
 
-pub returns-in-Known : goal.returns-in-Known
-unfolding settled_of is_walked
-returns-in-Known c =
-    let settled = c.settle_at in
-    rw (← c.slot-own.ensures, ← settled.ensures, c.in-Known.is)
-
-pub returns-in-Open : goal.returns-in-Open
-unfolding settled_of
-returns-in-Open c =
-    let settled = c.settle_at in
-    rw (← c.slot-own.ensures, ← settled.ensures, c.in-Open.is) (organized _ _ (omega arith))
+pub returns-else-author-ge2 : goal.returns-else-author-ge2
+returns-else-author-ge2 c = lt-leb 2 c.args.author c.if-author-ge2.false ∙ not_organized _ _ c.args.author c.if-author-ge2.false

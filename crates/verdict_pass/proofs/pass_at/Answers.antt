@@ -18,8 +18,8 @@ returns-then-is_walked c =
     ∙ rw d.ensures at (ap (passed_by (slot a.domains.now a.numbers.now a.walk)) c.reach.ensures)
     ∙ is_passed (kept_answers a.domains.now a.count a.kept.now) a.s (slot a.domains.now a.numbers.now 0) (stored_of a.author) (identifier_at a.domains.now a.numbers.now a.walk) (sym c.is_walked.ensures ∙ c.if-is_walked.true)
 
-pub returns : goal.returns
+pub returns-else-is_walked : goal.returns-else-is_walked
 unfolding passed_in
-returns c =
+returns-else-is_walked c =
     let a = c.args in
     not_walked (kept_answers a.domains.now a.count a.kept.now) a.s (slot a.domains.now a.numbers.now 0) (stored_of a.author) (identifier_at a.domains.now a.numbers.now a.walk) (sym c.is_walked.ensures ∙ c.if-is_walked.false)

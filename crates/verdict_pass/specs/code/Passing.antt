@@ -1,6 +1,5 @@
 -- What comparing makes of one identifier, and how code says it.
-use Rattle.std.proofs.Math.Option.{none as nothing}
-use Rattle.std.specs.Prelude.{if◌then◌else◌}
+use Rattle.std.specs.Prelude.{if◌then◌else◌, None}
 use Rattle.lookup.specs.Lookup.{Answers}
 use Rattle.domain.specs.Domain.{Domain, targets}
 use Rattle.policy.specs.declared.Settings.{Settings}
@@ -33,7 +32,7 @@ passed_within (stores x) = stores (within_253 x)
 unfoldable pub passed_at : Answers Reply → Settings → (author : Domain) → Stored → Identifier → Passed
 passed_at β s author st i =
     if is_walked (settled_alignment s author i) (stored_domain author st)
-    then passed_by i.domain (reach β i.domain nothing (targets i.domain))
+    then passed_by i.domain (reach β i.domain None (targets i.domain))
     else stores still_open
 
 -- code's answer, read

@@ -10,24 +10,24 @@ use Rattle.verdict_tally.proofs.tally.Goals as goal
 pub loop-walk-init : goal.loop-walk-init
 unfolding tally_of no_tally passed_from
 loop-walk-init c =
-    let none : c.smaller-walk.result - c.smaller-walk.result ≡ 0 = omega arith in
-    (omega arith, (omega (arith, c.smaller-walk.ensures), rw none))
+    let none : c.min-walk.result - c.min-walk.result ≡ 0 = omega arith in
+    (omega arith, (omega (arith, c.min-walk.ensures), rw none))
 
-pub tally_with-with_one-requires : goal.tally_with-with_one-requires
-tally_with-with_one-requires c =
+pub tally_with-all-requires : goal.tally_with-all-requires
+tally_with-all-requires c =
     let g = c.args in
-    rw c.loop-walk.invariant.1.1 (tally_room g.s g.domains.now g.numbers.now g.stored.now c.smaller-walk.result c.loop-walk.walk c.loop-walk.invariant.1.0)
+    rw c.loop-walk.invariant.1.1 (tally_room g.s g.domains.now g.numbers.now g.stored.now c.min-walk.result c.loop-walk.walk c.loop-walk.invariant.1.0)
 
 pub loop-walk-preserved : goal.loop-walk-preserved
 loop-walk-preserved c =
     let g = c.args in
-    let more = tally_step g.s g.domains.now g.numbers.now g.stored.now c.smaller-walk.result c.loop-walk.walk c.loop-walk-test.true c.loop-walk.invariant.0 in
-    (omega arith, (c.loop-walk.invariant.1.0, rw (c.tally_with-with_one.ensures, c.outcome_at.ensures, c.align_at-a.ensures, c.loop-walk.invariant.1.1) more))
+    let more = tally_step g.s g.domains.now g.numbers.now g.stored.now c.min-walk.result c.loop-walk.walk c.loop-walk-test.true c.loop-walk.invariant.0 in
+    (omega arith, (c.loop-walk.invariant.1.0, rw (c.tally_with-all.ensures, c.outcome_at.ensures, c.align_at-a.ensures, c.loop-walk.invariant.1.1) more))
 
 pub returns : goal.returns
 unfolding given_count
 returns c =
     let g = c.args in
     let first : c.loop-walk.walk + 1 ≡ 1 = omega arith in
-    let all : c.smaller-walk.result - c.loop-walk.walk ≡ c.smaller-walk.result = omega arith in
-    rw (← c.smaller-walk.ensures) (rw (first, all) at c.loop-walk.invariant.1.1)
+    let all : c.min-walk.result - c.loop-walk.walk ≡ c.min-walk.result = omega arith in
+    rw (← c.min-walk.ensures) (rw (first, all) at c.loop-walk.invariant.1.1)

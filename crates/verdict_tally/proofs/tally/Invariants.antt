@@ -6,6 +6,3 @@ use Rattle.verdict_tally.proofs.tally.Given as goal
 
 abbrev pub invariant-loop-walk : goal.invariant-loop-walk
 invariant-loop-walk l = (l.walk ≤ l.initial.walk) × ((l.initial.walk ≤ 16) × (l.all ≡ tally_from l.s l.domains l.numbers l.stored (l.walk + 1) (l.initial.walk - l.walk)))
-
-abbrev pub decreases-loop-walk : goal.decreases-loop-walk
-decreases-loop-walk l = l.walk

@@ -1,6 +1,6 @@
 -- `walk_end::end_suffix` meets its contract.
+use Rattle.std.specs.Prelude.{Some}
 use mathlib.Core.Path.{ap, ◌∙◌}
-use mathlib.Core.Option.{some as just}
 use Rattle.walk_progress.specs.code.Summary.{Summary, found_in, summary_in}
 use Rattle.walk_progress.specs.code.Reaching.{over}
 use Rattle.walk_progress.specs.code.Stops.{reached_in}
@@ -13,12 +13,12 @@ returns-then-same_end c =
     let a = c.args in
     let test = c.same_end in
     c.end_at.ensures a.d.now
-    ∙ ap (λ (x : Summary). over (just x)) (suffix_at_start a.d.now a.at.begin.0 a.at.wider.0 (found_in a.d.now a.last) a.settings test.result test.ensures c.if-same_end.true)
+    ∙ ap (λ (x : Summary). over (Some x)) (suffix_at_start a.d.now a.at.begin.0 a.at.wider.0 (found_in a.d.now a.last) a.settings test.result test.ensures c.if-same_end.true)
 
-pub returns : goal.returns
+pub returns-else-same_end : goal.returns-else-same_end
 unfolding found_in reached_in summary_in
-returns c =
+returns-else-same_end c =
     let a = c.args in
     let test = c.same_end in
-    ap (λ (x : Summary). over (just x))
+    ap (λ (x : Summary). over (Some x))
     (suffix_above a.d.now a.at.begin.0 a.at.wider.0 (found_in a.d.now a.last) a.settings test.result test.ensures c.if-same_end.false _ c.choose.ensures)

@@ -37,13 +37,13 @@ returns-then-kept-count c =
     record { replies = λ h. absurd (full (length a.kept.now) a.count c.if-kept-count.true h); size = refl; no_room = λ h. refl }
 
 pub overflow_add-from : goal.overflow_add-from
-overflow_add-from c = omega (arith, end-small (goal.at.overflow_add-from c).After-slot_begin-begin, c.smaller.ensures)
+overflow_add-from c = omega (arith, end-small (goal.at.overflow_add-from c).After-slot_begin-begin, c.min.ensures)
 
 pub overflow_add-end : goal.overflow_add-end
 overflow_add-end c = omega (arith, end-small (goal.at.overflow_add-end c).After-slot_begin-begin)
 
 pub overflow_cast-from : goal.overflow_cast-from
-overflow_cast-from c = omega (arith, end-small (goal.at.overflow_cast-from c).After-slot_begin-begin, c.smaller.ensures)
+overflow_cast-from c = omega (arith, end-small (goal.at.overflow_cast-from c).After-slot_begin-begin, c.min.ensures)
 
 pub overflow_cast-end : goal.overflow_cast-end
 overflow_cast-end c = omega (arith, end-small (goal.at.overflow_cast-end c).After-slot_begin-begin)
@@ -60,7 +60,7 @@ pub returns : goal.returns
 returns c =
     let put = c.put in
     let code = c.encode-code in
-    let from = c.smaller in
+    let from = c.min in
     let begin = c.slot_begin-begin in
     let room = c.if-kept-count.false in
     let a = c.args in

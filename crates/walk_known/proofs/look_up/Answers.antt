@@ -1,59 +1,47 @@
--- `walk_known::look_up` meets its contract. The loop's invariant: what is known by all answers is known by the `more` ones from `at` on.
-use mathlib.Core.Path.{◌≡◌, refl, ap, sym, ◌∙◌}
-use mathlib.Core.Option.{some as just}
-use Prim.Native.Nat.{◌+◌, ◌-◌}
+-- `walk_known::look_up` meets its contract. The loop's invariant: what is known by all answers is known by those from the i-th on.
+use mathlib.Core.Path.{◌≡◌, ap, sym, ◌∙◌}
+use Prim.Native.Nat.{◌+◌, ◌-◌, ◌*◌, ◌≤◌}
+use native.Mathlib.Decide.{dec_le}
 use native.Mathlib.Omega.{arith}
 use lib.ListN.{drop, get_or}
-use Rattle.std.specs.Prelude.{if◌then◌else◌}
+use Rattle.std.specs.Prelude.{if◌then◌else◌, Some, None}
 use Rattle.domain.specs.Domain.{asked_name}
 use Rattle.txt_codes.specs.code.Codes.{reply_of}
-use Rattle.walk_known.specs.code.Kept.{known, looked}
-use Rattle.walk_known.specs.declared.Looked.{Looked}
+use Rattle.walk_known.specs.code.Kept.{known}
 use Rattle.walk_known.proofs.KeptLaws.{known_none, known_short, known_next}
 use Rattle.walk_known.proofs.look_up.Goals as goal
 use Rattle.walk_known.proofs.look_up.Goals.{After-same_text}
 
 -- what is known, after the next answer is compared
 after : (v : After-same_text) →
-    let m = v.loop-more in
+    let i = v.loop-i.i in
     let a = v.args in
     known a.domains.now a.count a.kept.now (asked_name a.target.now)
-    ≡ (if v.same_text.result then just (reply_of (get_or a.kept.now (m.at + 2) 0)) else known a.domains.now (m.more - 1) (drop (m.at + 3) a.kept.now) (asked_name a.target.now))
+    ≡ (if v.same_text.result then Some (reply_of (get_or a.kept.now (3 * i + 2) 0)) else known a.domains.now (a.count - i - 1) (drop (3 * i + 3) a.kept.now) (asked_name a.target.now))
 after v =
-    let m = v.loop-more in
+    let i = v.loop-i.i in
     let a = v.args in
-    let piece = v.part in
-    m.invariant.1 ∙ known_next a.domains.now m.more a.kept.now m.at a.target.now (omega arith) (omega arith) piece.result.now piece.ensures v.same_text.result v.same_text.ensures
+    v.loop-i.invariant
+    ∙ known_next a.domains.now (a.count - i) a.kept.now (3 * i) a.target.now (omega arith) (omega arith) v.part.result.now (v.part.ensures ∙ rw (v.from-begin.ensures, v.from-end.ensures))
+    v.same_text.result v.same_text.ensures
 
-pub loop-more-init : goal.loop-more-init
-loop-more-init c = (omega arith, refl)
-
-pub returns-then-kept-at-lt3 : goal.returns-then-kept-at-lt3
-unfolding looked
-returns-then-kept-at-lt3 c =
-    let a = c.args in
-    let m = c.loop-more in
-    ap looked (sym (m.invariant.1 ∙ known_short a.domains.now m.more a.kept.now m.at a.target.now c.if-kept-at-lt3.true))
-
-pub overflow_cast-begin : goal.overflow_cast-begin
-overflow_cast-begin c = omega (arith, c.type_inv.kept c.loop-more.at)
-
-pub overflow_cast-end : goal.overflow_cast-end
-overflow_cast-end c = omega (arith, c.type_inv.kept (c.loop-more.at + 1))
-
-pub overflow_cast-kept : goal.overflow_cast-kept
-overflow_cast-kept c = omega (arith, c.type_inv.kept (c.loop-more.at + 2))
+pub loop-i-init : goal.loop-i-init
+loop-i-init c = let all : c.args.count - 0 ≡ c.args.count = omega arith in rw all
 
 pub returns-then-same_text : goal.returns-then-same_text
-unfolding looked
-returns-then-same_text c = ap Looked.Known c.decode.ensures ∙ ap looked (sym (rw c.if-same_text.true at (after (goal.at.returns-then-same_text c).After-same_text)))
+returns-then-same_text c =
+    ap Some (c.decode.ensures ∙ ap reply_of c.from.ensures) ∙ sym (rw c.if-same_text.true at (after (goal.at.returns-then-same_text c).After-same_text))
 
-pub loop-more-preserved : goal.loop-more-preserved
-loop-more-preserved c = (omega arith, rw c.if-same_text.false at (after (goal.at.loop-more-preserved c).After-same_text))
+pub loop-i-preserved : goal.loop-i-preserved
+loop-i-preserved c =
+    let i = c.loop-i.i in
+    let left : c.args.count - (i + 1) ≡ c.args.count - i - 1 = omega arith in
+    let place : 3 * (i + 1) ≡ 3 * i + 3 = omega arith in
+    rw (left, place) (rw c.if-same_text.false at (after (goal.at.loop-i-preserved c).After-same_text))
 
 pub returns : goal.returns
-unfolding looked
-returns c =
-    let a = c.args in
-    let m = c.loop-more in
-    ap looked (sym (m.invariant.1 ∙ known_none a.domains.now m.more a.kept.now m.at a.target.now c.loop-more-test.false))
+returns c = sym (c.loop-i.invariant ∙ go (dec_le c.args.count c.loop-i.i))
+  where
+    go : Dec (c.args.count ≤ c.loop-i.i) → known c.args.domains.now (c.args.count - c.loop-i.i) (drop (3 * c.loop-i.i) c.args.kept.now) (asked_name c.args.target.now) ≡ None
+    go (yes h) = known_none c.args.domains.now _ c.args.kept.now _ c.args.target.now (omega arith)
+    go (no h) = known_short c.args.domains.now _ c.args.kept.now _ c.args.target.now (omega arith)

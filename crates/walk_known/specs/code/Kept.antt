@@ -1,12 +1,10 @@
 -- Answers that were accepted, kept as numbers: where each one's target lies in the stored domains, and what it said.
-use Rattle.std.specs.Prelude.{List, [], ◌∷◌, ℕ, zero, suc, if◌then◌else◌}
-use Rattle.std.proofs.Math.Option.{Option, none as nothing, some as just}
+use Rattle.std.specs.Prelude.{List, [], ◌∷◌, ℕ, zero, suc, if◌then◌else◌, Some, Option}
 use Rattle.octets.specs.Octets.{Octets, part_of}
 use Rattle.lookup.specs.Lookup.{Answers, Name, find}
 use Rattle.domain.specs.Domain.{Domain, can_ask, asked_name}
 use Rattle.txt.specs.declared.Reply.{Reply}
 use Rattle.txt_codes.specs.code.Codes.{reply_of}
-use Rattle.walk_known.specs.declared.Looked.{Looked}
 
 -- ------------------------------------------------------------------ kept answers
 
@@ -22,10 +20,6 @@ kept_answers domains (suc n) (from ∷ end ∷ code ∷ kept) = (asked_name (par
 unfoldable pub known : (domains : Octets) → (count : ℕ) → List ℕ → Name → Option Reply
 known domains count kept n = find (kept_answers domains count kept) n
 
-unfoldable pub looked : Option Reply → Looked
-looked nothing = Looked.Missing
-looked (just r) = Looked.Known r
-
 -- what is known of a target: one too long to ask has no record
-unfoldable pub looked_at : Answers Reply → Domain → Looked
-looked_at β t = if can_ask t then looked (find β (asked_name t)) else Looked.Known Reply.NoRecord
+unfoldable pub looked_at : Answers Reply → Domain → Option Reply
+looked_at β t = if can_ask t then find β (asked_name t) else Some Reply.NoRecord

@@ -1,7 +1,6 @@
 -- How far a walk goes over the answers taken: to the first of its targets whose name lacks one, or to its end. What is kept of the one walk that
 -- is open is where it pauses.
-use Rattle.std.specs.Prelude.{◌≡◌, List, [], ◌∷◌, true, false, drop}
-use Rattle.std.proofs.Math.Option.{Option, none as nothing, some as just}
+use Rattle.std.specs.Prelude.{◌≡◌, List, [], ◌∷◌, true, false, drop, Option, None, Some}
 use Rattle.lookup.specs.Lookup.{Answers, find}
 use Rattle.domain.specs.Domain.{Domain, can_ask, asked_name, targets}
 use Rattle.policy.specs.declared.Psd.{Psd}
@@ -28,23 +27,23 @@ pub data Reached : Type 0 where
 
 -- by the psd of a record that is found
 unfoldable pub reach_found : (start : Domain) → (last : Option Found) → Found → (wider : Domain) → (on : Option Found → Reached) → Psd → Reached
-reach_found start last f w on Psd.Yes = over (just (wider_summary start last f w))
-reach_found start last f w on Psd.No = over (just (last_summary start (just f)))
-reach_found start last f w on Psd.Unset = on (just f)
+reach_found start last f w on Psd.Yes = over (Some (wider_summary start last f w))
+reach_found start last f w on Psd.No = over (Some (last_summary start (Some f)))
+reach_found start last f w on Psd.Unset = on (Some f)
 
 -- by the reply at a target
 unfoldable pub reach_by : (start : Domain) → (last : Option Found) → (target wider : Domain) → (on : Option Found → Reached) → Reply → Reached
-reach_by start last t w on Reply.Error = over nothing
+reach_by start last t w on Reply.Error = over None
 reach_by start last t w on Reply.NoRecord = on last
 reach_by start last t w on (Reply.Record s) = reach_found start last (found t s) w on s.psd
 
 -- over the answers taken, with these targets left
 unfoldable pub reach : Answers Reply → (start : Domain) → (last : Option Found) → List Domain → Reached
-reach β start last [] = over (just (last_summary start last))
+reach β start last [] = over (Some (last_summary start last))
 reach β start last (t ∷ ts) = elim (can_ask t) [
   | true ↦ elim (find β (asked_name t)) [
-    | nothing ↦ pauses (pause last t (one_more start t) ts)
-    | just r ↦ reach_by start last t (one_more start t) (λ l. reach β start l ts) r
+    | None ↦ pauses (pause last t (one_more start t) ts)
+    | Some r ↦ reach_by start last t (one_more start t) (λ l. reach β start l ts) r
   ]
   | false ↦ reach β start last ts
 ]
@@ -66,7 +65,7 @@ progress_of (over s) = ended s
 -- where a walk pauses, its target's name is to be asked and has no answer
 pub record Waiting (β : Answers Reply) (d : Domain) (p : Pause) : Type 0 where
   pub can : can_ask p.target ≡ true
-  pub lacks : find β (asked_name p.target) ≡ nothing
+  pub lacks : find β (asked_name p.target) ≡ None
   pub wide : p.wider ≡ one_more d p.target
 
 unfoldable pub Waits : Answers Reply → Domain → Reached → Type 0

@@ -1,6 +1,5 @@
 -- What holds of a walk that goes as far as the answers taken let it.
-use Rattle.std.specs.Prelude.{◌≡◌, List, [], ◌∷◌, ◌++◌}
-use Rattle.std.proofs.Math.Option.{Option, some as just, map}
+use Rattle.std.specs.Prelude.{◌≡◌, List, [], ◌∷◌, ◌++◌, Option, Some, option_map}
 use Rattle.lookup.specs.Lookup.{Answers, needs, run_over}
 use Rattle.domain.specs.Domain.{Domain, targets, asked_name}
 use Rattle.txt.specs.declared.Reply.{Reply}
@@ -27,6 +26,6 @@ pub record ReachingClaims (β : Answers Reply) (d : Domain) : Type 0 where
   pub asks : (p : Pause) → KeptReached β d (pauses p) → run_over β (summarized d) ≡ needs (asked_name p.target)
   -- what is stored of it is what is worked out afresh
   pub exactly : (w : Reached) → KeptReached β d w → stored_in d (progress_of w) ≡ stored_now β d
-  pub same_domain : (s : Option Summary) → InPlaces d (ended s) → stored_domain d (stored_in d (ended s)) ≡ map (λ o. o.organization) s
+  pub same_domain : (s : Option Summary) → InPlaces d (ended s) → stored_domain d (stored_in d (ended s)) ≡ option_map (λ o. o.organization) s
   -- and stays so once it has ended, whatever more is answered
-  pub stays : (γ : Answers Reply) (st : Stored) → st ≡ stored_now β d → {o : Domain} → stored_domain d st ≡ just o → st ≡ stored_now (β ++ γ) d
+  pub stays : (γ : Answers Reply) (st : Stored) → st ≡ stored_now β d → {o : Domain} → stored_domain d st ≡ Some o → st ≡ stored_now (β ++ γ) d

@@ -1,6 +1,5 @@
 -- How code's answers on the way of a walk are read, and what its functions promise. Every value is read.
-use Rattle.std.specs.Prelude.{◌≡◌, List, ℕ, ◌-◌, eqb, length, drop, if◌then◌else◌}
-use Rattle.std.proofs.Math.Option.{Option, none as nothing, some as just}
+use Rattle.std.specs.Prelude.{◌≡◌, List, ℕ, ◌-◌, eqb, length, drop, if◌then◌else◌, Option, None, Some}
 use Rattle.lookup.specs.Lookup.{Answers}
 use Rattle.domain.specs.Domain.{Domain, targets}
 use Rattle.domain_labels.specs.declared.Target.{Target}
@@ -10,7 +9,8 @@ use Rattle.walk_progress.specs.code.Stored.{Stored, still_open, failed, from}
 use Rattle.walk_progress.specs.declared.Applicable.{Applicable}
 use Rattle.walk_progress.specs.declared.Stop.{Stop}
 use Rattle.walk_progress.specs.declared.Reach.{Reach}
-use Rattle.walk_progress.specs.declared.Turned.{Turned}
+use Rattle.std.specs.declared.ops.ControlFlow.{ControlFlow}
+use Rattle.std.specs.declared.ops.ControlFlow.TheVariants.{Break, Continue}
 use Rattle.walk_progress.specs.code.Summary.{found_in, summary_in}
 use Rattle.walk_progress.specs.code.Reaching.{Pause, pause, Reached, pauses, over, reach_by, reach, reach_after}
 
@@ -23,13 +23,13 @@ pause_in d s = pause (found_in d s.last) (drop s.target.begin.0 d) (drop s.targe
 
 unfoldable pub reached_in : Domain → Reach → Reached
 reached_in d (Reach.Stops s) = pauses (pause_in d s)
-reached_in d Reach.Failed = over nothing
-reached_in d (Reach.Done o) = over (just (summary_in d o))
+reached_in d Reach.Failed = over None
+reached_in d (Reach.Done o) = over (Some (summary_in d o))
 
 -- with what follows where the walk goes on
-unfoldable pub turned_in : Domain → (on : Option Found → Reached) → Turned → Reached
-turned_in d on (Turned.Over r) = reached_in d r
-turned_in d on (Turned.On last) = on (found_in d last)
+unfoldable pub turned_in : Domain → (on : Option Found → Reached) → ControlFlow Reach (Option Applicable) → Reached
+turned_in d on (Break r) = reached_in d r
+turned_in d on (Continue last) = on (found_in d last)
 
 -- a stored number: 0 while the walk is open, 1 after an error, else two more than the place
 unfoldable pub stored_of : ℕ → Stored
@@ -38,16 +38,16 @@ stored_of n = if eqb n 0 then still_open else if eqb n 1 then failed else from (
 -- ------------------------------------------------------------------ promises
 
 -- of a turn at a reply to a target, however the walk goes on
-abbrev pub Turns : Domain → (at : Target) → (last : Applicable) → Reply → Turned → Type 0
+abbrev pub Turns : Domain → (at : Target) → (last : Option Applicable) → Reply → ControlFlow Reach (Option Applicable) → Type 0
 Turns d at last r t = (on : Option Found → Reached) → turned_in d on t ≡ reach_by d (found_in d last) (drop at.begin.0 d) (drop at.wider.0 d) on r
 
 -- of a walk that has its last n targets left
-abbrev pub ReachesFrom : Answers Reply → Domain → (last : Applicable) → (n : ℕ) → Reach → Type 0
+abbrev pub ReachesFrom : Answers Reply → Domain → (last : Option Applicable) → (n : ℕ) → Reach → Type 0
 ReachesFrom β d last n r = reached_in d r ≡ reach β d (found_in d last) (targets_left d n)
 
 -- of a walk from its start
 abbrev pub ReachesWhole : Answers Reply → Domain → Reach → Type 0
-ReachesWhole β d r = reached_in d r ≡ reach β d nothing (targets d)
+ReachesWhole β d r = reached_in d r ≡ reach β d None (targets d)
 
 -- of a walk that gets the reply that it stopped for
 abbrev pub ReachesAfter : Answers Reply → Domain → Stop → Reply → Reach → Type 0

@@ -1,6 +1,5 @@
 -- What is stored of a walk's organizational domain, as code reads it.
-use Rattle.std.proofs.Math.Option.{Option, none as nothing, some as just}
-use Rattle.std.specs.Prelude.{ℕ, ◌+◌, drop}
+use Rattle.std.specs.Prelude.{ℕ, ◌+◌, drop, Option, None, Some}
 use Rattle.lookup.specs.Lookup.{Answers, Standing, needs, has, run_over}
 use Rattle.domain.specs.Domain.{Domain, begin_of}
 use Rattle.txt.specs.declared.Reply.{Reply}
@@ -13,9 +12,9 @@ pub data Stored : Type 0 where
 
 -- the organizational domain that is stored
 unfoldable pub stored_domain : Domain → Stored → Option Domain
-stored_domain d still_open = nothing
-stored_domain d failed = nothing
-stored_domain d (from place) = just (drop place d)
+stored_domain d still_open = None
+stored_domain d failed = None
+stored_domain d (from place) = Some (drop place d)
 
 -- the number that says it
 unfoldable pub number_in : Stored → ℕ
@@ -26,8 +25,8 @@ number_in (from place) = place + 2
 -- what is to be stored, by where the walk worked out afresh stands
 unfoldable pub stored_by : Domain → Standing (Option Domain) → Stored
 stored_by d (needs n) = still_open
-stored_by d (has nothing) = failed
-stored_by d (has (just o)) = from (begin_of o d)
+stored_by d (has None) = failed
+stored_by d (has (Some o)) = from (begin_of o d)
 
 unfoldable pub stored_now : Answers Reply → Domain → Stored
 stored_now β d = stored_by d (run_over β (organizational_domain d))

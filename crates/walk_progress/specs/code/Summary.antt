@@ -1,6 +1,5 @@
 -- What code keeps of a walk, in place of the list of its records: the organizational domain, and the record that applies by the walk.
-use Rattle.std.specs.Prelude.{List, drop}
-use Rattle.std.proofs.Math.Option.{Option, none as nothing, some as just, map}
+use Rattle.std.specs.Prelude.{List, drop, Option, None, Some, option_map}
 use Rattle.lookup.specs.Lookup.{Lookups, done, ◌>>=◌}
 use Rattle.domain.specs.Domain.{Domain}
 use Rattle.txt.specs.declared.Reply.{Reply}
@@ -13,8 +12,8 @@ pub record Summary : Type 0 where
   pub applicable : Option Found
 
 unfoldable pub or_found : Option Found → Option Found → Option Found
-or_found nothing g = g
-or_found (just f) g = just f
+or_found None g = g
+or_found (Some f) g = Some f
 
 -- "the organizational domain's, where the author's walk found one; else the psd=y one"
 unfoldable pub summary : Domain → List Found → Summary
@@ -24,13 +23,13 @@ summary start fs = record { organization = organizational start fs; applicable =
 unfoldable pub summarized : Domain → Lookups Reply (Option Summary)
 summarized d = do
   fs ← walk d
-  done (map (summary d) fs)
+  done (option_map (summary d) fs)
 
 -- ------------------------------------------------------------------ the code's answers, read
 
-unfoldable pub found_in : Domain → Applicable → Option Found
-found_in d Applicable.Nothing = nothing
-found_in d (Applicable.Record begin s) = just (found (drop begin.0 d) s)
+unfoldable pub found_in : Domain → Option Applicable → Option Found
+found_in d None = None
+found_in d (Some a) = Some (found (drop a.begin.0 d) a.settings)
 
 -- by where its domains begin in that of the walk
 unfoldable pub summary_in : Domain → Organization → Summary

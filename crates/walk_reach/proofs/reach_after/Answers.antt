@@ -18,14 +18,14 @@ after v =
     let β = kept_answers a.domains.now a.count a.kept.now in
     v.turn.ensures (λ l. reach β a.d.now l (targets_left a.d.now a.stop.more.0))
 
-pub returns-in-Over : goal.returns-in-Over
+pub returns-in-Break : goal.returns-in-Break
 unfolding turned_in
-returns-in-Over c = rw c.in-Over.is at (after (goal.at.returns-in-Over c).After-turn)
+returns-in-Break c = rw c.in-Break.is at (after (goal.at.returns-in-Break c).After-turn)
 
-pub returns-in-On : goal.returns-in-On
+pub returns-in-Continue : goal.returns-in-Continue
 unfolding turned_in
-returns-in-On c =
+returns-in-Continue c =
     let a = c.args in
     let β = kept_answers a.domains.now a.count a.kept.now in
     reaches_from β a.d.now _ c.find_starts-starts.ensures _ _ _ c.reach_from.ensures
-    ∙ rw c.in-On.is at (after (goal.at.returns-in-On c).After-turn)
+    ∙ rw c.in-Continue.is at (after (goal.at.returns-in-Continue c).After-turn)

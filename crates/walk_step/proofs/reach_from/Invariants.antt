@@ -8,6 +8,3 @@ use Rattle.walk_step.proofs.reach_from.Given as goal
 abbrev pub invariant-loop-more : goal.invariant-loop-more
 invariant-loop-more l = let β = kept_answers l.domains l.count l.kept in
     reach_placed β l.d l.starts.begins (found_in l.d l.initial.last) l.initial.more ≡ reach_placed β l.d l.starts.begins (found_in l.d l.last) l.more
-
-abbrev pub decreases-loop-more : goal.decreases-loop-more
-decreases-loop-more l = l.more

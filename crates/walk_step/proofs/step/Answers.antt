@@ -4,10 +4,10 @@ use Rattle.walk_progress.specs.code.Stops.{pause_in, reached_in, turned_in}
 use Rattle.walk_step.specs.code.Steps.{by_looked, reach_at}
 use Rattle.walk_step.proofs.step.Goals as goal
 
-pub returns-in-Missing : goal.returns-in-Missing
+pub returns-in-None : goal.returns-in-None
 unfolding turned_in reached_in pause_in reach_at by_looked
-returns-in-Missing c = λ on. rw (sym c.look_at.ensures ∙ c.in-Missing.is)
+returns-in-None c = λ on. rw (sym c.look_at.ensures ∙ c.in-None.is)
 
-pub returns-in-Known : goal.returns-in-Known
+pub returns-in-Some : goal.returns-in-Some
 unfolding reach_at by_looked
-returns-in-Known c = λ on. rw (sym c.look_at.ensures ∙ c.in-Known.is) (c.turn.ensures on)
+returns-in-Some c = λ on. rw (sym c.look_at.ensures ∙ c.in-Some.is) (c.turn.ensures on)

@@ -16,7 +16,7 @@ pub returns-in-No : goal.returns-in-No
 unfolding found_in reach_found turned_in
 returns-in-No c = λ on.
     let a = c.args in
-    by_psd a.d.now (found_in a.d.now a.last) _ _ on a.settings c.in-No.is _ (c.end_at-end.ensures a.d.now)
+    by_psd a.d.now (found_in a.d.now a.last) _ _ on a.settings c.in-No.is _ (c.end_at.ensures a.d.now)
 
 pub returns-in-Unset : goal.returns-in-Unset
 unfolding found_in reach_found turned_in

@@ -1,24 +1,16 @@
 -- `waslidhaj_gather::waslidhaj_gather` meets its contract.
-use Rattle.std.proofs.Common.{◌<◌, arith, length, min}
-use Rattle.rows_note.proofs.FindLaws.{no_row}
-use Rattle.waslidhaj_gather.proofs.TurnLaws.{at_first, one_more, at_last}
+use Rattle.std.proofs.Common.{◌≡◌, ◌∙◌, take, length, arith}
+use Rattle.std.proofs.Math.Seq.{take-length}
+use Rattle.std.proofs.lemmas.List.{take_min}
+use Rattle.rows.specs.Rows.{on_list}
+use Rattle.rows_gather.proofs.GatherLaws.{none_yet, none_counted}
 use Rattle.waslidhaj_gather.proofs.waslidhaj_gather.Goals as goal
 
-pub loop-at-init : goal.loop-at-init
-loop-at-init c = record {
-  listed = c.listed-n.ensures;
-  within = omega arith;
-  gathered = rw c.none-g.ensures (at_first c.args.rows.now);
-}
-
-pub loop-at-preserved : goal.loop-at-preserved
-loop-at-preserved c =
-    let inside : c.loop-at.at < min 256 (length c.args.rows.now) = omega arith in
-    record {
-      listed = c.listed-n.ensures;
-      within = omega arith;
-      gathered = one_more c.args.rows.now c.loop-at.at c.loop-at.g c.with_one_more-g.result no_row inside c.with_one_more-g.ensures.rows c.with_one_more-g.ensures.count c.loop-at.invariant.gathered;
-    }
+pub loop-row-init : goal.loop-row-init
+loop-row-init c = rw c.none-g.ensures (record { rows = none_yet; count = none_counted })
 
 pub returns : goal.returns
-returns c = at_last c.args.rows.now c.loop-at.at c.loop-at.g (omega arith) (omega arith) c.loop-at.invariant.gathered
+unfolding on_list
+returns c =
+    let all : c.loop-row.row-index ≡ length (take c.listed.result c.args.rows.now) = omega arith in
+    c.loop-row.invariant.rows ∙ rw (all, take-length, c.listed.ensures, take_min)

@@ -1,14 +1,10 @@
 -- The loop of `waslidhaj_gather::waslidhaj_gather`.
-use Rattle.std.proofs.Common.{◌≡◌, ◌-◌, ◌≤◌, length, min}
-use Rattle.waslidhaj_gather.proofs.TurnLaws.{SoFar}
+use Rattle.std.proofs.Common.{◌≡◌, take}
+use Rattle.rows_gather.specs.code.Gathered.{rows_in}
 use Rattle.waslidhaj_gather.proofs.waslidhaj_gather.Given as goal
 
-abbrev pub invariant-loop-at : goal.invariant-loop-at
-invariant-loop-at l = record {
-  listed : l.n ≡ min 256 (length l.rows);
-  within : l.at ≤ l.n;
-  gathered : SoFar l.rows l.at l.g;
+abbrev pub invariant-loop-row : goal.invariant-loop-row
+invariant-loop-row l = record {
+  rows : rows_in l.g ≡ take l.row-index l.row-items;
+  count : l.g.count ≡ l.row-index;
 }
-
-abbrev pub decreases-loop-at : goal.decreases-loop-at
-decreases-loop-at l = l.n - l.at

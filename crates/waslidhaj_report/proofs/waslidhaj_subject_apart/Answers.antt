@@ -5,5 +5,5 @@ use Rattle.waslidhaj_report.proofs.waslidhaj_subject_apart.Goals as goal
 
 pub returns : goal.returns
 returns c =
-    let p = c.write_subject-subject.ensures in
+    let p = c.write_subject.ensures in
     record { answers = c.number_written.ensures ∙ ap written_numbers p.answers; leaves = p.leaves }

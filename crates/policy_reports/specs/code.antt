@@ -1,2 +1,0 @@
--- Definitions that only code needs.
-pub mod UriSteps

@@ -1,7 +1,0 @@
--- `verdict_place::judged` meets its contract.
-use Rattle.verdict_cursor.specs.code.Positions.{place_in, place_by}
-use Rattle.verdict_place.proofs.judged.Goals as goal
-
-pub returns : goal.returns
-unfolding place_in place_by
-returns c = rw (c.at.ensures.0, c.at.ensures.1, c.keep_ruling.ensures)

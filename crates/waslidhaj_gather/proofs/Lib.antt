@@ -1,2 +1,0 @@
--- What the proof about the rows that are gathered needs.
-pub mod TurnLaws
