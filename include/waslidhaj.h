@@ -56,7 +56,7 @@ enum {
  *
  *   call                      apart   overlapping
  *   waslidhaj_open            29696
- *   waslidhaj_add             48128
+ *   waslidhaj_add             38912
  *   waslidhaj_next            52224
  *   waslidhaj_answer          87040         97280
  *   waslidhaj_result          17408

@@ -14,6 +14,11 @@ use domain::Octet;
 use policy::Bounds;
 use walk_progress::Stop;
 
+// The numbers of the two walks.
+pub const POLICY: u8 = 0;
+
+pub const HOST: u8 = 1;
+
 // What comes next: a name to ask, given by its walk and place, or the outcome.
 #[derive(Clone, Copy)]
 pub enum CheckAhead {
@@ -42,8 +47,8 @@ fn number_kind(kind: PointKind) -> u8
     ensures { point_kind_in result ≡ kind }
 {
     match kind {
-        PointKind::Policy => 0,
-        PointKind::Host => 1,
+        PointKind::Policy => POLICY,
+        PointKind::Host => HOST,
         PointKind::Confirming => 2,
         PointKind::PlainNo => 3,
         PointKind::Inside => 4,
@@ -65,12 +70,12 @@ fn at(kind: PointKind, instead: Bounds) -> CheckPoint
     }
 }
 
-// A place on a walk.
-pub fn on(kind: PointKind, organization: Octet, s: Stop) -> CheckPoint
-    ensures { (point_kind_in result.kind ≡ kind) × (result.organization ≡ organization) × (stop_in result.stop ≡ s) }
+// A place on a walk, of any number: it is promised of each, so it is no `PointKind`.
+pub fn on(kind: u8, organization: Octet, s: Stop) -> CheckPoint
+    ensures { (result.kind ≡ kind) × (result.organization ≡ organization) × (stop_in result.stop ≡ s) }
 {
     CheckPoint {
-        kind: number_kind(kind),
+        kind,
         organization,
         stop: walk_stop::keep_stop(s),
         instead: Bounds {
@@ -142,6 +147,12 @@ pub fn has_room(p: CheckPoint, count: usize) -> bool
 {
     match look(p) {
         CheckAhead::Outcome(_) => true,
-        CheckAhead::Name { walk, place: _ } => 1 < walk || count < MOST_REPLIES,
+        CheckAhead::Name { walk, place: _ } => {
+            // Two tests: `||` was tried, and the library for C then needs memmove from outside.
+            if 1 < walk {
+                return true;
+            }
+            count < MOST_REPLIES
+        }
     }
 }

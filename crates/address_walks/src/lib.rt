@@ -32,7 +32,7 @@ fn after_host<'a>(policy: &'a [u8], host: &'a [u8], organization: Octet, w: Reac
     ensures { (β : Answers Reply) → cursor_in (both policy.now host.now) result ≡ host_reached β (both policy.now host.now) (drop organization.0 policy.now) (reached_in host.now w) }
 {
     match w {
-        Reach::Stops(stop) => address_point::on(PointKind::Host, organization, stop),
+        Reach::Stops(stop) => address_point::on(address_point::HOST, organization, stop),
         Reach::Failed => address_point::settle(Agreement::NotKnown),
         Reach::Done(o) => {
             let own = text_parts::skip(host, o.begin.0);
@@ -58,7 +58,7 @@ fn after_policy<'a>(
     ensures { cursor_in (both policy.now host.now) result ≡ policy_reached (kept_answers domains.now count kept.now) (both policy.now host.now) (reached_in policy.now w) }
 {
     match w {
-        Reach::Stops(stop) => address_point::on(PointKind::Policy, Octet(0), stop),
+        Reach::Stops(stop) => address_point::on(address_point::POLICY, Octet(0), stop),
         Reach::Failed => address_point::settle(Agreement::NotKnown),
         Reach::Done(o) => {
             let reached = walk_reach::reach(domains, kept, count, host);

@@ -40,12 +40,13 @@ pub struct ReaderState {
     pub outcome: u8,
 }
 
-// What is written into the row's octets from a place on.
+// What is written into the row's octets from a place on; no octet of a report writes three.
 #[derive(Clone, Copy)]
 pub enum Written {
     Nothing,
     One(u16, u8),
     Two(u16, u8, u8),
+    Three(u16, u8, u8, u8),
     Four(u16, u8, u8, u8, u8),
 }
 

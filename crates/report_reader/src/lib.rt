@@ -128,5 +128,5 @@ pub fn end(s: ReaderState) -> ReaderState
     if LAST <= s.node {
         return s;
     }
-    report_taken::stop(s, Refusal::Early)
+    report_taken::refuse(s, Refusal::Early)
 }

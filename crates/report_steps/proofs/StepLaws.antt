@@ -1,9 +1,7 @@
 -- Laws of one octet of a number.
-use Rattle.std.specs.Prelude.{None, Some, Option, Ok, Err}
-use Rattle.std.specs.Option.{is_some, unwrap_or}
-use mathlib.Core.Path.{◌≡◌, refl, sym, ap, ◌∙◌}
+use Rattle.std.specs.Prelude.{None, Some, Ok, Err}
+use mathlib.Core.Path.{◌≡◌, refl}
 use mathlib.Core.Logic.{◌⊎◌, inl, inr}
-use native.Mathlib.Omega.{arith}
 use mathlib.Core.List.{◌∷◌}
 use mathlib.Core.Bool.{Bool, true, false, ◌&&◌, ◌||◌, not, false≢true}
 use Prim.Native.Nat.{ℕ, suc, ◌+◌, ◌-◌, ◌*◌, ◌≤◌, ◌<◌}
@@ -19,21 +17,21 @@ use Rattle.report_steps.specs.code.Steps.{turn_by, number_turn}
 
 -- ------------------------------------------------------------------ a digit
 
-module _ (least : ℕ) (so_far : Option ℕ) (x : ℕ) where
+module _ (least value : ℕ) (some : Bool) (x : ℕ) where
   abbrev pub Next : Bool
-  Next = is_digit x && not (is_some so_far && eqb (unwrap_or so_far 0) 0) && (is_some so_far || leb least (x - 48))
+  Next = is_digit x && not (some && eqb value 0) && (some || leb least (x - 48))
 
   pub no_digit : is_digit x ≡ false → false ≡ Next
   no_digit d = rw d refl
 
-  pub behind : (value : ℕ) → is_digit x ≡ true → so_far ≡ Some value → not (eqb value 0) ≡ Next
-  behind value d e = rw (d, e) (and_true (not (eqb value 0)))
+  pub behind : is_digit x ≡ true → some ≡ true → not (eqb value 0) ≡ Next
+  behind d e = rw (d, e) (and_true (not (eqb value 0)))
     where
       and_true : (b : Bool) → b ≡ (b && true)
       and_true true = refl
       and_true false = refl
 
-  pub at_first : is_digit x ≡ true → so_far ≡ None → leb least (x - 48) ≡ Next
+  pub at_first : is_digit x ≡ true → some ≡ false → leb least (x - 48) ≡ Next
   at_first d e = rw (d, e) refl
 
   pub is_low : Next ≡ true → 48 ≤ x
@@ -46,31 +44,28 @@ module _ (least : ℕ) (so_far : Option ℕ) (x : ℕ) where
 
 -- ------------------------------------------------------------------ what it says
 
-module _ (least most floor : ℕ) (so_far : Option ℕ) (x : ℕ) where
-  abbrev value : ℕ
-  value = unwrap_or so_far 0
-
-  pub ended : (v : ℕ) → v ≡ value → x ≡ 60 → is_some so_far ≡ true → floor ≤ v → Ok Leaf.Ended ≡ number_turn least most floor so_far x
+module _ (least most floor value : ℕ) (some : Bool) (x : ℕ) where
+  pub ended : x ≡ 60 → some ≡ true → floor ≤ value → Ok Leaf.Ended ≡ number_turn least most floor value some x
   unfolding number_turn number_refused turn_by
-  ended v q e f h = rw (eq-eqb x 60 e, f, le-leb floor value (omega (arith, h, q))) (rw (eq-eqb x 60 e) refl)
+  ended e f h = rw (eq-eqb x 60 e, f, le-leb floor value h) (rw (eq-eqb x 60 e) refl)
 
-  pub not_yet : (v : ℕ) → v ≡ value → x ≡ 60 → ((is_some so_far ≡ true) × (v < floor)) ⊎ (is_some so_far ≡ false) → Err Refusal.Outside ≡ number_turn least most floor so_far x
+  pub not_yet : x ≡ 60 → ((some ≡ true) × (value < floor)) ⊎ (some ≡ false) → Err Refusal.Outside ≡ number_turn least most floor value some x
   unfolding number_turn number_refused turn_by
-  not_yet v q e (inl (f, h)) = rw (eq-eqb x 60 e, f, lt-leb floor value (omega (arith, h, q))) refl
-  not_yet v q e (inr f) = rw (eq-eqb x 60 e, f) refl
+  not_yet e (inl (f, h)) = rw (eq-eqb x 60 e, f, lt-leb floor value h) refl
+  not_yet e (inr f) = rw (eq-eqb x 60 e, f) refl
 
-  pub outside : (x ≡ 60 → ⊥) → Next least so_far x ≡ false → Err Refusal.Outside ≡ number_turn least most floor so_far x
+  pub outside : (x ≡ 60 → ⊥) → Next least value some x ≡ false → Err Refusal.Outside ≡ number_turn least most floor value some x
   unfolding number_turn number_refused digit_refused turn_by
   outside e f = rw (ne_eqb x 60 e, f) refl
 
-  pub over : (v : ℕ) → v ≡ value → (x ≡ 60 → ⊥) → Next least so_far x ≡ true → leb (v * 10 + (x - 48)) most ≡ false → Err Refusal.Over ≡ number_turn least most floor so_far x
+  pub over : (x ≡ 60 → ⊥) → Next least value some x ≡ true → leb (value * 10 + (x - 48)) most ≡ false → Err Refusal.Over ≡ number_turn least most floor value some x
   unfolding number_turn number_refused digit_refused turn_by
-  over v q e f g = rw (ne_eqb x 60 e, f, ap (λ k. leb (k * 10 + (x - 48)) most) (sym q) ∙ g) refl
+  over e f g = rw (ne_eqb x 60 e, f, g) refl
 
-  pub goes_on : (v : ℕ) → v ≡ value → (x ≡ 60 → ⊥) → Next least so_far x ≡ true → leb (v * 10 + (x - 48)) most ≡ true
-      → Ok (Leaf.More (v * 10 + (x - 48))) ≡ number_turn least most floor so_far x
+  pub goes_on : (x ≡ 60 → ⊥) → Next least value some x ≡ true → leb (value * 10 + (x - 48)) most ≡ true
+      → Ok (Leaf.More (value * 10 + (x - 48))) ≡ number_turn least most floor value some x
   unfolding number_turn number_refused digit_refused turn_by
-  goes_on v q e f g = rw (ne_eqb x 60 e, f, ap (λ k. leb (k * 10 + (x - 48)) most) (sym q) ∙ g) (rw (ne_eqb x 60 e) (ap (λ k. Ok (Leaf.More (k * 10 + (x - 48)))) q))
+  goes_on e f g = rw (ne_eqb x 60 e, f, g) (rw (ne_eqb x 60 e) refl)
 
 -- ------------------------------------------------------------------ the program after it
 

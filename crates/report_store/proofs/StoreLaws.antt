@@ -49,6 +49,12 @@ module _ (at : ℕ) (row : Octets) where
   unfolding write
   writes_two a b = laid_more at (at + 1) a (b ∷ []) row (omega arith)
 
+  pub writes_three : (a b c : ℕ) → laid_at (at + 2) (c ∷ []) (laid_at (at + 1) (b ∷ []) (laid_at at (a ∷ []) row)) ≡ write (Written.Three at a b c) row
+  unfolding write
+  writes_three a b c =
+      laid_more (at + 1) (at + 2) b (c ∷ []) (laid_at at (a ∷ []) row) (omega arith)
+      ∙ laid_more at (at + 1) a (b ∷ c ∷ []) row (omega arith)
+
   pub writes_four : (a b c d : ℕ) → laid_at (at + 3) (d ∷ []) (laid_at (at + 2) (c ∷ []) (laid_at (at + 1) (b ∷ []) (laid_at at (a ∷ []) row))) ≡ write (Written.Four at a b c d) row
   unfolding write
   writes_four a b c d =

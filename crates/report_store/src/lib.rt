@@ -28,6 +28,11 @@ pub fn put(row: &mut [u8], w: Written)
             put_one(row, at as usize, a);
             put_one(row, at as usize + 1, b);
         }
+        Written::Three(at, a, b, c) => {
+            put_one(row, at as usize, a);
+            put_one(row, at as usize + 1, b);
+            put_one(row, at as usize + 2, c);
+        }
         Written::Four(at, a, b, c, d) => {
             put_one(row, at as usize, a);
             put_one(row, at as usize + 1, b);

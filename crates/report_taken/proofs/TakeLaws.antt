@@ -113,6 +113,7 @@ module _ (s : ReaderState) (five : Bool) (x : ℕ) (row : Octets) (knows : Knows
     long Written.Nothing l = l
     long (Written.One at a) l = length_laid at (a ∷ []) row ∙ l
     long (Written.Two at a b) l = length_laid at (a ∷ b ∷ []) row ∙ l
+    long (Written.Three at a b c) l = length_laid at (a ∷ b ∷ c ∷ []) row ∙ l
     long (Written.Four at a b c d) l = length_laid at (a ∷ b ∷ c ∷ d ∷ []) row ∙ l
 
     abbrev onward : ReaderState

@@ -30,14 +30,22 @@ fn number_of(refusal: Refusal) -> u8
     }
 }
 
-// A reader that is refused.
-pub fn stop(s: ReaderState, refusal: Refusal) -> ReaderState
-    ensures { result ≡ stopped (refusal_number refusal) s }
+// A reader that is refused by a number.
+#[tactic(auto, unfolding(crate::specs::code::Taking::stopped))]
+pub fn stop(s: ReaderState, number: u8) -> ReaderState
+    ensures { result ≡ stopped number s }
 {
     ReaderState {
-        refused: number_of(refusal) as u64,
+        refused: number as u64,
         ..s
     }
+}
+
+// One that is refused.
+pub fn refuse(s: ReaderState, refusal: Refusal) -> ReaderState
+    ensures { result ≡ stopped (refusal_number refusal) s }
+{
+    stop(s, number_of(refusal))
 }
 
 // One that is not, behind so many octets.
@@ -72,7 +80,7 @@ pub fn take_octet(s: ReaderState, x: u8, row: &mut [u8]) -> Taken
     if LARGEST <= s.taken {
         return Taken {
             gives: false,
-            state: stop(s, Refusal::Outside),
+            state: refuse(s, Refusal::Outside),
         };
     }
     let five = knows_five(s, row);
@@ -86,7 +94,7 @@ pub fn take_octet(s: ReaderState, x: u8, row: &mut [u8]) -> Taken
         }
         Err(refusal) => Taken {
             gives: false,
-            state: stop(s, refusal),
+            state: refuse(s, refusal),
         },
     }
 }

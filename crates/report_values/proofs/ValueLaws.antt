@@ -102,7 +102,7 @@ module _ (least most floor value : ℕ) (some : Bool) (x : ℕ) where
       go false p c q true s true t = ap (λ n. step_of (number_from {R = Said} n least most (leb floor) value some) x) (less s (leb-true _ _ t) z) ∙ on_at _ (rw (p, s, t) refl) p ∙ rw (p, s, t) (rw p refl)
 
 pub value_said : (least most floor : ℕ) (so_far : Option ℕ) (x : ℕ)
-    → step_of (number_left {R = Said} least most floor (unwrap_or so_far 0) (is_some so_far)) x ≡ said (λ v. number_left least most floor v true) (unwrap_or so_far 0) (number_turn least most floor so_far x)
+    → step_of (number_left {R = Said} least most floor (unwrap_or so_far 0) (is_some so_far)) x ≡ said (λ v. number_left least most floor v true) (unwrap_or so_far 0) (number_turn least most floor (unwrap_or so_far 0) (is_some so_far) x)
 unfolding number_left number_turn
 value_said least most floor None x = said_of least most floor 0 false x (λ q. refl)
 value_said least most floor (Some value) x = said_of least most floor value true x (λ q. absurd (false≢true (sym q)))

@@ -79,6 +79,10 @@ pub fn is_set(body: &[u8]) -> bool
 pub fn is_named<'a>(authors: &'a [u8], sets: &'a [u8], author: u32, set: u32) -> bool
     ensures { result ≡ not (is_nothing (named_by (record { authors = authors.now; sets = sets.now }) author set)) }
 {
+    // The sets are not gone through where the author is not there.
+    if !is_whole(record_at(authors, author)) {
+        return false;
+    }
     let named = record_at(sets, set);
-    is_whole(record_at(authors, author)) && is_whole(named) && is_set(records_fields::body(named))
+    is_whole(named) && is_set(records_fields::body(named))
 }

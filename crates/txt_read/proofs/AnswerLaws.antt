@@ -163,6 +163,12 @@ bare_texts Status.Records bytes t = absurd (t refl)
 bare_texts Status.NoRecords bytes t = refl
 bare_texts Status.Error bytes t = refl
 
+pub none_reply : (s : Status) (bytes : Octets) → Bare s → (s ≡ Status.Error → ⊥) → Reply.NoRecord ≡ reply (answer_of s bytes)
+unfolding answer_of reply
+none_reply Status.Records bytes t u = absurd (t refl)
+none_reply Status.NoRecords bytes t u = refl
+none_reply Status.Error bytes t u = absurd (u refl)
+
 module _ (s : Status) (bytes m : Octets) (t : Bare s) where
   pub bare_short : length m < 4096 → (r : Result Reply Refusal) → r ≡ Err (refusal 10 4096) → Takes (answer_of s bytes) m r m
   bare_short h r f = refuses_scratch (answer_of s bytes) m r [] (bare_texts s bytes t) h f

@@ -1,8 +1,9 @@
 // An answer taken: its texts into the scratch, and the policy record at a name, or a refusal.
 #![tactic(auto)]
 
-ghost use Rattle.std.specs.Prelude.{◌≡◌};
+ghost use Rattle.std.specs.Prelude.{◌≡◌, Err};
 ghost use Rattle.txt.specs.Answers.{answer_of, joined};
+ghost use Rattle.octets.specs.Refusing.{refusal};
 ghost use Rattle.txt.specs.Taking.{Takes};
 ghost use Rattle.txt_read.specs.code.Steps.{all_texts, Room, Copies, Finds};
 
@@ -46,21 +47,32 @@ fn take_records(bytes: &[u8], scratch: &mut [u8]) -> Found
     txt_found::add_found(first, others)
 }
 
+// A refusal, with its number and place.
+fn refuse_answer(number: u8, place: usize) -> Result<Reply, Refusal>
+    ensures { result ≡ Err (refusal number place) }
+{
+    Err(Refusal { number, place })
+}
+
 // Takes an answer: what it says of its name, with its texts left in the scratch, or a refusal.
 pub fn take_answer(status: Status, bytes: &[u8], scratch: &mut [u8]) -> Result<Reply, Refusal>
     ensures { Takes (answer_of status bytes.now) scratch.old result scratch.new }
 {
-    match status {
-        Status::Records if !txt_read::is_readable(bytes) => Err(Refusal {
-            number: 6,
-            place: 0,
-        }),
-        _ if scratch.len() < SCRATCH => Err(Refusal {
-            number: 10,
-            place: SCRATCH,
-        }),
-        Status::Records => Ok(txt_found::reply_of(take_records(bytes, scratch))),
-        Status::NoRecords => Ok(Reply::NoRecord),
-        Status::Error => Ok(Reply::Error),
+    // None and error leave here, before any record is read.
+    let Status::Records = status else {
+        if scratch.len() < SCRATCH {
+            return refuse_answer(10, SCRATCH);
+        }
+        let Status::Error = status else {
+            return Ok(Reply::NoRecord);
+        };
+        return Ok(Reply::Error);
+    };
+    if !txt_read::is_readable(bytes) {
+        return refuse_answer(6, 0);
     }
+    if scratch.len() < SCRATCH {
+        return refuse_answer(10, SCRATCH);
+    }
+    Ok(txt_found::reply_of(take_records(bytes, scratch)))
 }

@@ -9,7 +9,7 @@ pub returns-then-walk-gt1 : goal.returns-then-walk-gt1
 unfolding ahead_walks
 returns-then-walk-gt1 c = λ d.
     let walks = rw c.in-Name.is at (c.look.ensures d).1 in
-    lt-ltb _ _ c.if-walk-gt1.true ∙ rw (sym walks ∙ le-ltb c.in-Name.walk 2 (omega (arith, c.if-walk-gt1.true)))
+    rw (sym walks ∙ le-ltb c.in-Name.walk 2 (omega (arith, c.if-walk-gt1.true)))
 
 pub returns-in-Outcome : goal.returns-in-Outcome
 unfolding ahead_walks

@@ -5,7 +5,7 @@ use Rattle.octets.specs.Octets.{same}
 use Rattle.walk_progress.specs.code.Summary.{summary_in}
 use Rattle.walk_progress.specs.code.Stops.{reached_in}
 use Rattle.address_check.specs.code.Cursor.{host_reached}
-use Rattle.address_check.specs.code.View.{cursor_by, cursor_in}
+use Rattle.address_check.specs.code.View.{point_kind_in, cursor_by, cursor_in}
 use Rattle.address_check.specs.code.Pairs.{both}
 use Rattle.address_walks.proofs.after_host.Goals as goal
 use Rattle.address_walks.proofs.after_host.Goals.{After-same_octets}
@@ -27,7 +27,7 @@ returns-then-same_octets c =
     ∙ rw (c.in-Done.is, ← (compared (goal.at.returns-then-same_octets c).After-same_octets), c.if-same_octets.true)
 
 pub returns-in-Stops : goal.returns-in-Stops
-unfolding cursor_in cursor_by host_reached reached_in
+unfolding point_kind_in cursor_in cursor_by host_reached reached_in
 returns-in-Stops c = λ β. rw (c.in-Stops.is, c.on.ensures.0, c.on.ensures.1, c.on.ensures.2)
 
 pub returns-in-Failed : goal.returns-in-Failed

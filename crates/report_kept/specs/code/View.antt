@@ -95,6 +95,7 @@ unfoldable pub write : Written → Octets → Octets
 write Written.Nothing row = row
 write (Written.One at a) row = laid_at at (a ∷ []) row
 write (Written.Two at a b) row = laid_at at (a ∷ b ∷ []) row
+write (Written.Three at a b c) row = laid_at at (a ∷ b ∷ c ∷ []) row
 write (Written.Four at a b c d) row = laid_at at (a ∷ b ∷ c ∷ d ∷ []) row
 
 -- ------------------------------------------------------------------ what an octet says

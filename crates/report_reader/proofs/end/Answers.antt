@@ -15,4 +15,4 @@ returns-then-s-ge-LAST c = ends_well c.args.s c.if-s-ne0.false c.if-s-ge-LAST.tr
 -- src/lib.rt:78:1
 pub returns : goal.returns
 unfolding refusal_number
-returns c = ends_early c.args.s _ c.stop.ensures c.if-s-ne0.false (omega (arith, c.if-s-ge-LAST.false))
+returns c = ends_early c.args.s _ c.refuse.ensures c.if-s-ne0.false (omega (arith, c.if-s-ge-LAST.false))

@@ -14,7 +14,7 @@ pub returns-then-s-ge-LARGEST : goal.returns-then-s-ge-LARGEST
 unfolding largest refusal_number
 returns-then-s-ge-LARGEST c =
     let a = c.args in
-    subst (λ t. Takes a.s a.x a.row.now (record { gives = false; state = t }) a.row.now) (sym c.stop.ensures)
+    subst (λ t. Takes a.s a.x a.row.now (record { gives = false; state = t }) a.row.now) (sym c.refuse.ensures)
     (takes_full a.s a.row.now a.x c.if-s-ne0.false c.if-s-ge-LARGEST.true)
 
 pub returns-in-Ok : goal.returns-in-Ok
@@ -27,5 +27,5 @@ pub returns-in-Err : goal.returns-in-Err
 unfolding largest
 returns-in-Err c =
     let a = c.args in
-    subst (λ t. Takes a.s a.x a.row.now (record { gives = false; state = t }) a.row.now) (sym c.stop-in-Err.ensures)
+    subst (λ t. Takes a.s a.x a.row.now (record { gives = false; state = t }) a.row.now) (sym c.refuse-in-Err.ensures)
     (takes_refused a.s _ a.x a.row.now c.knows_five-five.ensures c.if-s-ne0.false c.if-s-ge-LARGEST.false _ c.in-Err.ensures)

@@ -10,4 +10,5 @@ use Rattle.report_values.proofs.step_value.Goals as goal
 pub returns : goal.returns
 returns c =
     let a = c.args in
-    value_said a.least a.most a.floor a.so_far a.x ∙ ap (said (λ v. number_left a.least a.most a.floor v true) (unwrap_or a.so_far 0)) (sym c.step_number.ensures)
+    value_said a.least a.most a.floor a.so_far a.x
+    ∙ ap (said (λ v. number_left a.least a.most a.floor v true) (unwrap_or a.so_far 0)) (sym (rw (c.unwrap_or.ensures, c.is_some.ensures) at c.step_number.ensures))
